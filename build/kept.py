@@ -1,9 +1,11 @@
-"""What a build takes from those before it on this machine: each library and each program's object
-file is kept outside the repository, by a checksum of all that it was proved from, so that another
-clone proves no crate again. They lie in $XDG_CACHE_HOME/tensor-build, ~/.cache/tensor-build where
-that isn't set, as links to the files of the first clone where both are on one disk. What is taken
-is compared with its own checksum first. TENSOR_RUN_KEPT=no switches this off; the gate proves
-everything itself and knows nothing of it."""
+"""Keeps what a build has proved, for other clones on this machine.
+
+Each library and each program's object file is kept outside the repository, by a checksum of everything
+that its proof has read, so that no other clone proves the crate again. The folder is
+$XDG_CACHE_HOME/tensor-build, or ~/.cache/tensor-build if that is not set. Files are links to the files
+of the first clone, if both are on one disk. A file's own checksum is compared before it is taken.
+TENSOR_RUN_KEPT=no switches this off. The gate proves everything itself and takes nothing from here.
+"""
 
 import hashlib
 import os

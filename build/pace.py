@@ -1,4 +1,4 @@
-"""How long a build takes: the work of each crate, and which crates all others wait for."""
+"""How long a build takes: the work of each crate, and the crates that all others wait for."""
 
 import os
 import time

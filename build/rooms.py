@@ -1,4 +1,4 @@
-"""The folders in which a build puts what it makes of the crates, and how it knows what is proved."""
+"""The folders into which a build puts libraries and programs, and how it knows what is proved."""
 
 import hashlib
 import json

@@ -1,5 +1,6 @@
-"""What all scripts in Python do with the words behind their names: --help prints what the script says
-of itself, and a word that it doesn't know ends it with status 2."""
+"""Reads the arguments of a script in Python. --help prints the script's docstring, and an unknown
+argument ends the script with status 2.
+"""
 
 import sys
 

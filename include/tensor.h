@@ -11,8 +11,8 @@
    The version may also be 3 (docs/FRAMES.md), which has larger tensors and more operations.
 
    A frame has the answer, or the fault, of the request text that holds the values as `data`, without
-   the limit on the length of a text. A call does all its work on the calling thread. `workers` and
-   `block` are checked, and change nothing.
+   the limit on the length of a text. A call does all its work on the calling thread, except the calls of
+   a pool, whose threads take parts. `workers` and `block` are checked, and change nothing.
 
    What a caller must do:
    - Each pointer points to as many elements as its length says, aligned for their type. If the length
@@ -21,8 +21,8 @@
    - What a call writes (`out`, `dims`, `name`, and `plan` of tensor_prepare) overlaps nothing else
      that the call is given. No other thread reads or writes it during the call. No thread writes what
      the call reads.
-   - Any number of threads may call at the same time. A signal handler must not call, and neither must
-     the forked child of a process with threads.
+   - Any number of threads may call at the same time. A signal handler must not call. The forked child of
+     a process with threads may call if it may call malloc, as with the GNU C library.
    - The processor has all instructions of x86-64-v2, or of x86-64-v3 if the library was built for it.
      The library does not check this.
    - malloc, realloc and free of the program belong to one allocator, as in the C library.
@@ -31,7 +31,8 @@
    them. A caller from another language, or by the address of a function, must pass a valid address for
    an empty list.
 
-   Link libtensor.a or libtensor.so, and nothing else: cc program.c -Iinclude out/libtensor.a */
+   Link libtensor.a or libtensor.so, and nothing else: cc program.c -Iinclude out/libtensor.a
+   With a GNU C library before 2.34 libtensor.a also needs -pthread. */
 
 #ifndef TENSOR_H
 #define TENSOR_H
@@ -45,7 +46,7 @@ extern "C" {
 #endif
 
 /* The version of the library, as the file VERSION has it. */
-#define TENSOR_VERSION "2.1.0"
+#define TENSOR_VERSION "3.0.0"
 
 /* The most values of a tensor of version 3, and so of an answer. In versions 1 and 2 a tensor has at
    most 1,048,576 values. */
@@ -92,8 +93,8 @@ int64_t tensor_evaluate(const uint8_t *header, size_t header_length,
    Calls with equal headers and values are parts of one answer. A call from place 0 with room for n
    values, a call from place n, and so on up to the number of values that tensor_dims returns, together
    write what tensor_evaluate writes, on whatever threads and in whatever order they are made. So
-   threads of the caller can share one answer, each with a range of one list. No further list of the
-   values is made.
+   threads of the caller can share one answer, each with a range of one list, and so do the threads of a
+   pool. No further list of the values is made.
 
    Each part reads the header again, and computes again what tensor_shared counts. */
 int64_t tensor_evaluate_part(const uint8_t *header, size_t header_length,
@@ -172,6 +173,52 @@ int64_t tensor_dims_of_arrays(const uint8_t *header, size_t header_length,
    name has, 0 if no fault has this number, or TENSOR_NO_ROOM if `name` is too short. In the last two
    cases it writes nothing. */
 int64_t tensor_fault_name(uint32_t number, uint8_t *name, size_t name_length);
+
+/* A pool of threads, which evaluate parts of answers for their callers (include/tensor_pool.c). */
+struct tensor_pool;
+
+/* The most workers of a pool, and the most parts of an answer. */
+#define TENSOR_MOST_WORKERS 256
+#define TENSOR_MOST_PARTS 256
+
+/* Opens a pool of `workers` workers, and returns it. A calling thread is a worker, so one thread less is
+   started. If a thread cannot be started, the pool has fewer workers: this is no fault. More than
+   TENSOR_MOST_WORKERS are not started. Returns null if 64 pools are open. A call on a null pool is right.
+
+   The library owns the pool, and the caller closes it. The threads have the stack size that pthread_create
+   gives, and run no signal handler. A thread without parts spins for some microseconds, and then
+   sleeps. */
+struct tensor_pool *tensor_pool_open(size_t workers);
+
+/* Does what tensor_run does, in at most `parts` parts. The threads of the pool take some parts, and the
+   calling thread takes the others. A part that failed on another thread is evaluated again on the calling
+   thread. Faults are returned as by tensor_run; but if an allocation fails (-15), `out` may hold anything.
+
+   If `parts` is 1, no other thread takes part, and more than TENSOR_MOST_PARTS parts are not made. If
+   `parts` is 0, there is a part for each 32,768 values of `out_length`, and at most one for each worker.
+   Parts do not pay if each computes much again (tensor_shared), which a plan does not say: then pass 1.
+   For an operation that combines many values into one, name a number of parts.
+
+   Any number of threads may call on one pool at the same time. The threads of the pool take parts of the
+   oldest call first, and no call waits for another one. A call needs 3 KiB of stack more than tensor_run.
+   A call on a null pool or on a closed pool is evaluated on the calling thread. So is a call in a forked
+   child, where the pools of its parent have no threads: the child may open a pool of its own. */
+int64_t tensor_pool_run(struct tensor_pool *pool, const uint64_t *plan, size_t plan_length,
+                        const struct tensor_array *arrays, size_t count,
+                        uint64_t first, int64_t *out, size_t out_length, size_t parts);
+
+/* Does what tensor_evaluate_arrays does, in parts as tensor_pool_run makes them. If `parts` is 0, each part
+   also has at least as many values as tensor_shared counts. */
+int64_t tensor_pool_evaluate_arrays(struct tensor_pool *pool,
+                                    const uint8_t *header, size_t header_length,
+                                    const struct tensor_array *arrays, size_t count,
+                                    uint64_t first, int64_t *out, size_t out_length, size_t parts);
+
+/* Closes a pool, and returns after its threads have ended. Other threads may call on the pool meanwhile and
+   later: each call evaluates the parts that no thread has taken. A null pool, a closed pool, and in a
+   forked child a pool of the parent stay as they are. tensor_pool_open may return the address of a closed
+   pool again, so close a pool once. Close all pools before the library is unloaded. */
+void tensor_pool_close(struct tensor_pool *pool);
 
 /* The functions below replace null pointers of empty lists by a valid address. */
 static inline void *tensor_place(const void *list, size_t length)

@@ -1,5 +1,6 @@
 /* Tensor expressions over wrapping 64-bit integers, from C++20: the calls of tensor.h with spans,
-   threads and exceptions. tensor.h says what a caller must do.
+   a pool of threads and exceptions, and expressions that make headers. tensor.h says what a caller
+   must do.
 
    Link libtensor.a or libtensor.so: c++ -std=c++20 -pthread program.cpp -Iinclude out/libtensor.a */
 
@@ -7,15 +8,19 @@
 #define TENSOR_HPP
 
 #include <algorithm>
+#include <array>
+#include <concepts>
 #include <cstddef>
 #include <cstdint>
-#include <exception>
-#include <mutex>
+#include <initializer_list>
+#include <map>
+#include <memory>
 #include <span>
 #include <stdexcept>
 #include <string>
 #include <string_view>
 #include <thread>
+#include <utility>
 #include <vector>
 
 #include "tensor.h"
@@ -70,28 +75,28 @@ inline const std::uint8_t *bytes(std::string_view header)
     return reinterpret_cast<const std::uint8_t *>(header.data());
 }
 
-/* Calls `write` for `threads` parts of a list, each on its own thread, with the first place of the part.
-   If calls throw, it throws one of their exceptions again after all have ended. */
-template <typename Write>
-void in_parts(std::span<std::int64_t> out, unsigned threads, const Write &write)
-{
-    std::exception_ptr thrown;
-    std::once_flag once;
-    auto work = [&](std::size_t first, std::size_t last) {
-        try {
-            write(first, out.subspan(first, last - first));
-        } catch (...) {
-            std::call_once(once, [&] { thrown = std::current_exception(); });
-        }
-    };
+/* The pool of threads of this program, opened when it is first needed: as many as there are processors. */
+class Pool {
+public:
+    static tensor_pool *shared()
     {
-        std::vector<std::jthread> others;
-        for (unsigned i = 1; i < threads; i++)
-            others.emplace_back(work, out.size() * i / threads, out.size() * (i + 1) / threads);
-        work(0, out.size() / std::max(threads, 1u));
+        static const Pool pool;
+        return pool.opened_;
     }
-    if (thrown)
-        std::rethrow_exception(thrown);
+
+private:
+    Pool() : opened_(tensor_pool_open(std::thread::hardware_concurrency())) {}
+    Pool(const Pool &) = delete;
+    Pool &operator=(const Pool &) = delete;
+    ~Pool() { tensor_pool_close(opened_); }
+
+    tensor_pool *opened_;
+};
+
+/* The pool for calls in this number of parts: none for one part. */
+inline tensor_pool *pool(std::size_t parts)
+{
+    return parts > 1 ? Pool::shared() : nullptr;
 }
 
 }  // namespace detail
@@ -123,14 +128,16 @@ inline std::size_t shared(std::string_view header, std::span<const Values> array
         tensor_shared(detail::bytes(header), header.size(), lying.data(), lying.size()));
 }
 
-/* Writes all values of the answer to `out`, which has room for exactly these, in `threads` parts, each on
-   its own thread. `shared` tells whether parts pay. */
+/* Writes all values of the answer to `out`, which has room for exactly these, in `threads` parts, by the
+   threads of a pool that the program keeps, and by the calling thread. `shared` tells whether parts pay. */
 inline void evaluate(std::string_view header, std::span<const Values> arrays,
                      std::span<std::int64_t> out, unsigned threads = 1)
 {
-    detail::in_parts(out, threads, [&](std::uint64_t first, std::span<std::int64_t> part) {
-        evaluate_part(header, arrays, first, part);
-    });
+    const auto lying = detail::lying(arrays);
+    const std::size_t parts = std::max(threads, 1u);
+    detail::answered(tensor_pool_evaluate_arrays(detail::pool(parts), detail::bytes(header), header.size(),
+                                                 lying.data(), lying.size(), 0, out.data(), out.size(),
+                                                 parts));
 }
 
 /* An expression that is read and checked once, and evaluated over any arrays of its tensors' dims. */
@@ -159,14 +166,280 @@ public:
 
     void run(std::span<const Values> arrays, std::span<std::int64_t> out, unsigned threads = 1) const
     {
-        detail::in_parts(out, threads, [&](std::uint64_t first, std::span<std::int64_t> part) {
-            run_part(arrays, first, part);
-        });
+        const auto lying = detail::lying(arrays);
+        const std::size_t parts = std::max(threads, 1u);
+        detail::answered(tensor_pool_run(detail::pool(parts), plan_.data(), plan_.size(), lying.data(),
+                                         lying.size(), 0, out.data(), out.size(), parts));
     }
 
 private:
     std::vector<std::uint64_t> plan_;
 };
+
+/* Sizes, axes or offsets of an operation: one number, or several in braces. */
+class Sizes {
+public:
+    Sizes(std::integral auto one) : list_{static_cast<std::int64_t>(one)} {}
+    Sizes(std::initializer_list<std::int64_t> list) : list_(list) {}
+    Sizes(std::vector<std::int64_t> list) : list_(std::move(list)) {}
+
+    std::string text() const
+    {
+        std::string text;
+        for (const std::int64_t it : list_)
+            text += (text.empty() ? "" : ",") + std::to_string(it);
+        return "[" + text + "]";
+    }
+
+private:
+    std::vector<std::int64_t> list_;
+};
+
+/* The numbers before and behind along each axis, or the axes that two operands share. */
+using Pairs = std::vector<std::array<std::int64_t, 2>>;
+
+namespace detail {
+
+/* An operation, its operands, and the text of its arguments; or an input, without operands, and the text
+   of its dims. */
+struct Node {
+    using Link = std::shared_ptr<const Node>;
+    std::string name, arguments;
+    std::vector<Link> operands;
+    /* Whether it combines many values, or something below it does; and how many nodes it is written as. */
+    bool combines;
+    std::size_t nodes;
+    /* An input of the same dims, if one is known. */
+    Link input;
+};
+using Link = Node::Link;
+constexpr std::size_t MANY = 16;
+
+/* A header that is being written. What stands in several places is bound by `let`, and so computed once,
+   if it combines values or has many nodes. */
+class Writing {
+public:
+    std::string header(const Link &whole)
+    {
+        count(whole);
+        std::string expr = text(whole), inputs;
+        for (const auto &[name, dims] : inputs_)
+            inputs += (inputs.empty() ? "\"" : ",\"") + name + R"(":{"dims":)" + dims + "}";
+        return R"({"version":3,"workers":1,"block":4096,"inputs":{)" + inputs + R"(},"expr":)" + lets_ +
+               expr + std::string(bound_.size(), ']') + "}";
+    }
+
+private:
+    void count(const Link &it)
+    {
+        if (places_[it]++ > 0)
+            return;
+        if (it->operands.empty())
+            inputs_[it->name] = it->arguments;
+        for (const Link &operand : it->operands)
+            count(operand);
+    }
+
+    std::string text(const Link &it)
+    {
+        if (const auto found = bound_.find(it); found != bound_.end())
+            return found->second;
+        const std::string name = '"' + it->name + '"';
+        if (it->operands.empty())
+            return name;
+        std::string text = "[" + name;
+        for (const Link &operand : it->operands)
+            text += "," + this->text(operand);
+        text += it->arguments + "]";
+        if (places_[it] == 1 || !(it->combines || it->nodes >= MANY))
+            return text;
+        const std::string bound = "\"t" + std::to_string(bound_.size()) + '"';
+        lets_ += R"(["let",)" + bound + "," + text + ",";
+        return bound_[it] = bound;
+    }
+
+    std::map<Link, std::size_t> places_;
+    std::map<Link, std::string> bound_;
+    std::map<std::string, std::string> inputs_;
+    std::string lets_;
+};
+
+}  // namespace detail
+
+/* An expression, by the operations of docs/REQUEST.md and docs/FRAMES.md under their names. It makes the
+   header that the calls take:
+
+     const tensor::Expr x(0, {2, 3}), y(1, {2, 3});
+     const std::string header = (x * 3 + y).sum(0).header();
+
+   An operator takes two expressions of equal dims, or an expression and a number. `/` and `%` round down.
+   The calls check dims and arguments, and throw the fault. A header nests up to 120 operations. */
+class Expr {
+public:
+    /* The input of a number, of these dims. */
+    Expr(unsigned number, const Sizes &dims)
+    {
+        constexpr std::uint64_t widest = 10'000'000'000;
+        const std::string name = std::to_string(widest + number).substr(1);
+        link_ = std::make_shared<detail::Node>(detail::Node{name, dims.text(), {}, false, 1, {}});
+    }
+
+    /* The arrays come in the order of the inputs' numbers. An input that the expression doesn't have has
+       no array. */
+    std::string header() const { return detail::Writing().header(link_); }
+
+    /* An operation on operands of equal dims, place by place. */
+    static Expr each(const char *name, const std::vector<Expr> &operands)
+    {
+        return Expr(name, operands, "", false, operands[0].input());
+    }
+
+    Expr abs() const { return each("abs", {*this}); }
+    Expr square() const { return each("square", {*this}); }
+    Expr constant(std::int64_t value) const
+    {
+        const Expr beside(input() ? input() : link_);
+        return Expr("constant", {beside}, std::to_string(value), false, input());
+    }
+
+    Expr broadcast(const Sizes &counts) const { return moved("broadcast", counts.text()); }
+    Expr slice(const Sizes &offsets, const Sizes &extents) const
+    {
+        return moved("slice", offsets.text() + "," + extents.text());
+    }
+    Expr shuffle(const Sizes &order) const { return moved("shuffle", order.text()); }
+    Expr reshape(const Sizes &sizes) const { return moved("reshape", sizes.text()); }
+    Expr stride(const Sizes &steps) const { return moved("stride", steps.text()); }
+    Expr pad(const Pairs &pairs) const { return moved("pad", text(pairs)); }
+    Expr chip(std::int64_t offset, std::int64_t axis) const
+    {
+        return moved("chip", std::to_string(offset) + "," + std::to_string(axis));
+    }
+    Expr reverse(std::initializer_list<bool> flags) const
+    {
+        std::string text;
+        for (const bool it : flags)
+            text += (text.empty() ? "" : ",") + std::string(it ? "true" : "false");
+        return moved("reverse", "[" + text + "]");
+    }
+    Expr concat(const Expr &other, std::int64_t axis) const
+    {
+        return Expr("concat", {*this, other}, std::to_string(axis), false);
+    }
+
+    Expr sum(const Sizes &axes) const { return combined("sum", axes.text()); }
+    Expr prod(const Sizes &axes) const { return combined("prod", axes.text()); }
+    Expr maximum(const Sizes &axes) const { return combined("maximum", axes.text()); }
+    Expr minimum(const Sizes &axes) const { return combined("minimum", axes.text()); }
+    Expr all(const Sizes &axes) const { return combined("all", axes.text()); }
+    Expr any(const Sizes &axes) const { return combined("any", axes.text()); }
+    Expr cumsum(std::int64_t axis) const { return combined("cumsum", std::to_string(axis)); }
+    Expr cumprod(std::int64_t axis) const { return combined("cumprod", std::to_string(axis)); }
+    Expr argmax(std::int64_t axis) const { return combined("argmax", std::to_string(axis)); }
+    Expr argmin(std::int64_t axis) const { return combined("argmin", std::to_string(axis)); }
+    Expr contract(const Expr &other, const Pairs &axes) const
+    {
+        return Expr("contract", {*this, other}, text(axes), true);
+    }
+    /* The product of a matrix with a matrix or a list. */
+    Expr matmul(const Expr &other) const { return contract(other, {{1, 0}}); }
+    Expr convolve(const Expr &kernel, const Sizes &axes) const
+    {
+        return Expr("convolve", {*this, kernel}, axes.text(), true);
+    }
+    Expr take(const Expr &offsets, std::int64_t axis) const
+    {
+        return Expr("take", {*this, offsets}, std::to_string(axis), true);
+    }
+
+private:
+    explicit Expr(detail::Link link) : link_(std::move(link)) {}
+
+    Expr(const char *name, const std::vector<Expr> &operands, const std::string &arguments, bool combines,
+         detail::Link input = {})
+    {
+        detail::Node node{name, arguments.empty() ? "" : "," + arguments, {}, combines, 1, input};
+        for (const Expr &it : operands) {
+            node.operands.push_back(it.link_);
+            node.combines = node.combines || it.link_->combines;
+            node.nodes = std::min(node.nodes + it.link_->nodes, detail::MANY);
+        }
+        link_ = std::make_shared<detail::Node>(std::move(node));
+    }
+
+    Expr moved(const char *name, const std::string &arguments) const
+    {
+        return Expr(name, {*this}, arguments, false);
+    }
+    Expr combined(const char *name, const std::string &arguments) const
+    {
+        return Expr(name, {*this}, arguments, true);
+    }
+    detail::Link input() const { return link_->operands.empty() ? link_ : link_->input; }
+    static std::string text(const Pairs &pairs)
+    {
+        std::string text;
+        for (const auto &[first, second] : pairs)
+            text += (text.empty() ? "" : ",") + Sizes({first, second}).text();
+        return "[" + text + "]";
+    }
+
+    detail::Link link_;
+};
+
+inline Expr input(unsigned number, const Sizes &dims) { return Expr(number, dims); }
+
+/* What an operator takes: an expression, or a number that stands at each place. */
+template <typename It>
+concept Operand = std::same_as<It, Expr> || std::integral<It>;
+
+namespace detail {
+
+inline Expr beside(const Expr &, const Expr &it) { return it; }
+inline Expr beside(const Expr &other, std::integral auto it)
+{
+    return other.constant(static_cast<std::int64_t>(it));
+}
+
+inline Expr two(const char *name, const Expr &x, const Operand auto &y)
+{
+    return Expr::each(name, {x, beside(x, y)});
+}
+inline Expr two(const char *name, std::integral auto x, const Expr &y)
+{
+    return Expr::each(name, {beside(y, x), y});
+}
+
+}  // namespace detail
+
+inline Expr operator-(const Expr &x) { return Expr::each("neg", {x}); }
+inline Expr operator!(const Expr &x) { return Expr::each("not", {x}); }
+inline Expr operator~(const Expr &x) { return Expr::each("bit_not", {x}); }
+inline Expr operator+(const Operand auto &x, const Operand auto &y) { return detail::two("add", x, y); }
+inline Expr operator-(const Operand auto &x, const Operand auto &y) { return detail::two("sub", x, y); }
+inline Expr operator*(const Operand auto &x, const Operand auto &y) { return detail::two("mul", x, y); }
+inline Expr operator/(const Operand auto &x, const Operand auto &y) { return detail::two("floor_divide", x, y); }
+inline Expr operator%(const Operand auto &x, const Operand auto &y) { return detail::two("remainder", x, y); }
+inline Expr operator<(const Operand auto &x, const Operand auto &y) { return detail::two("lt", x, y); }
+inline Expr operator<=(const Operand auto &x, const Operand auto &y) { return detail::two("le", x, y); }
+inline Expr operator==(const Operand auto &x, const Operand auto &y) { return detail::two("eq", x, y); }
+inline Expr operator!=(const Operand auto &x, const Operand auto &y) { return detail::two("ne", x, y); }
+inline Expr operator>(const Operand auto &x, const Operand auto &y) { return detail::two("gt", x, y); }
+inline Expr operator>=(const Operand auto &x, const Operand auto &y) { return detail::two("ge", x, y); }
+inline Expr operator&&(const Operand auto &x, const Operand auto &y) { return detail::two("and", x, y); }
+inline Expr operator||(const Operand auto &x, const Operand auto &y) { return detail::two("or", x, y); }
+inline Expr operator&(const Operand auto &x, const Operand auto &y) { return detail::two("bit_and", x, y); }
+inline Expr operator|(const Operand auto &x, const Operand auto &y) { return detail::two("bit_or", x, y); }
+inline Expr operator^(const Operand auto &x, const Operand auto &y) { return detail::two("bit_xor", x, y); }
+inline Expr operator<<(const Operand auto &x, const Operand auto &y) { return detail::two("shift_left", x, y); }
+inline Expr operator>>(const Operand auto &x, const Operand auto &y) { return detail::two("shift_right", x, y); }
+inline Expr cwise_max(const Expr &x, const Operand auto &y) { return detail::two("cwise_max", x, y); }
+inline Expr cwise_min(const Expr &x, const Operand auto &y) { return detail::two("cwise_min", x, y); }
+/* `x` where the condition isn't 0, else `y`. */
+inline Expr select(const Expr &condition, const Operand auto &x, const Operand auto &y)
+{
+    return Expr::each("select", {condition, detail::beside(condition, x), detail::beside(condition, y)});
+}
 
 }  // namespace tensor
 

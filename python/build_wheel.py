@@ -47,16 +47,20 @@ def files():
 
 
 def metadata():
-    """What the package is, for pip."""
-    said = re.search(r'(?m)^description = "(.+)"$', text_of("pyproject.toml"))[1]
+    """What the package is, for pip: its fields, and its page."""
+    project = text_of("pyproject.toml")
     fields = {
         "Metadata-Version": "2.1",
         "Name": PACKAGE,
         "Version": version(),
-        "Summary": said,
+        "Summary": re.search(r'(?m)^description = "(.+)"$', project)[1],
         "Requires-Python": ">=3.8",
+        "Description-Content-Type": "text/markdown",
     }
-    return "".join(f"{name}: {it}\n" for name, it in fields.items()).encode()
+    classes = re.findall(r'(?m)^    "(.+ :: .+)",$', project)
+    lines = [f"{name}: {it}\n" for name, it in fields.items()]
+    lines += [f"Classifier: {it}\n" for it in classes]
+    return f"{''.join(lines)}\n{text_of('README.md')}".encode()
 
 
 def write_wheel(folder, contents, tag=PURE):

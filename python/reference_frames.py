@@ -7,6 +7,7 @@ pointer or a length ends here, and in the library nobody would notice.
 """
 
 import ctypes
+import functools
 import json
 import os
 import struct
@@ -25,8 +26,8 @@ from fuzzing.rules import FAULTS, FRAME_VERSIONS, is_list_of, is_size
 SIZES = struct.Struct("<QQ")
 MOST, MOST_PLACES = 16_777_216, 10_000_000
 TOO_LONG, NO_ROOM = b"error 1 TooLong", -100
-# What the first number of a plan of the reference is.
-PLAN = 67
+# What the first number of a plan of the reference is, and the place of its pool.
+PLAN, POOL = 67, 64
 
 
 def numbers_of(data):
@@ -86,6 +87,13 @@ class Functions:
         self.tensor_prepare = dims(self.prepare)
         self.tensor_run = arrays(self.run)
         self.tensor_fault_name = name(self.fault_name)
+        of_pool = ctypes.CFUNCTYPE(
+            number, pointer, *[pointer, length] * 2, place, pointer, length, length
+        )
+        self.tensor_pool_open = ctypes.CFUNCTYPE(pointer, length)(lambda workers: POOL)
+        self.tensor_pool_run = of_pool(functools.partial(self.in_parts, self.run))
+        self.tensor_pool_evaluate_arrays = of_pool(functools.partial(self.in_parts, self.evaluate_arrays))
+        self.tensor_pool_close = ctypes.CFUNCTYPE(None, pointer)(lambda pool: None)
         # What was owed, and how often dims alone were asked for.
         self.owed, self.asked_dims = [], 0
 
@@ -134,6 +142,17 @@ class Functions:
         part = found[first : first + room]
         ctypes.memmove(out, struct.pack(f"<{len(part)}q", *part), 8 * len(part))
         return len(part)
+
+    def in_parts(self, call, pool, text, length, arrays, count, first, out, room, parts):
+        """What a call of a pool does: one call for each part."""
+        if pool != (POOL if parts > 1 else None) or not parts:
+            self.owed.append(f"the pool of {parts} parts")
+        ends = [room * it // max(parts, 1) for it in range(max(parts, 1) + 1)]
+        found = [
+            call(text, length, arrays, count, first + it, out + 8 * it, end - it)
+            for it, end in zip(ends, ends[1:])
+        ]
+        return min(found) if min(found) < 0 else sum(found)
 
     def prepare(self, header, length, count, plan, plan_room):
         """The plan is a mark, and the header's length and its bytes, a number each."""

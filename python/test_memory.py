@@ -3,17 +3,16 @@ written, and by how many threads. Skipped where numpy isn't installed."""
 
 import os
 import pickle
-import threading
 import unittest
 import unittest.mock
 
 import tensor_client as client
 from tensor_client import tensor, where
 from tensor_client import threads
-from tensor_client.library import arrays_of, library_of
-from tensor_client.memory import as_memory, overlap
+from tensor_client.library import POOLS, arrays_of, library_of
+from tensor_client.memory import as_memory, memory_for, overlap
 from tensor_client.requests import Settings, framed
-from tensor_client.threads import LEAST, products, shares
+from tensor_client.threads import LEAST, parts_worth, products
 from asking import WAYS, referring
 
 try:
@@ -184,7 +183,10 @@ class Memory(unittest.TestCase):
             numpy.array(["1"]),
         ):
             self.assertRaises(TypeError, tensor, array)
-            self.assertRaises(TypeError, lambda it: tensor([1, 2]) + it, array)
+            if array.dtype.kind in "fc" and array is not masked:
+                self.assertEqual((tensor([1, 2]) + array).tolist(), [1 + array, 2 + array])
+            else:
+                self.assertRaises(TypeError, lambda it: tensor([1, 2]) + it, array)
         self.assertRaises(OverflowError, tensor, numpy.array([2**63], dtype=numpy.uint64))
 
 
@@ -228,7 +230,7 @@ class Out(unittest.TestCase):
 class Threads(unittest.TestCase):
     """Parts of an answer, on threads."""
 
-    def test_shares(self):
+    def test_parts_that_are_worth_it(self):
         x = tensor(range(5))
         for size, workers, shared, count in (
             (0, 4, 0, 1),
@@ -241,9 +243,7 @@ class Threads(unittest.TestCase):
             (LEAST * 9, 4, LEAST * 5, 1),
             (LEAST * 9, 4, LEAST * 10, 1),
         ):
-            found = shares(x + 1, size, workers, lambda it=shared: it)
-            self.assertEqual(len(found), count)
-            self.assertEqual([it for part in found for it in part], list(range(size)))
+            self.assertEqual(parts_worth(x + 1, size, workers, lambda it=shared: it), count)
         # Of what combines values into one these count, of what goes along an axis else its own.
         rows = tensor([0] * LEAST * 3, dims=(LEAST, 3))
         for expr, size, shared, count in (
@@ -260,7 +260,7 @@ class Threads(unittest.TestCase):
             (rows.taken([0] * 96, 1), 96 * LEAST, 0, 8),
             (rows.taken([2, 0], 1), 2 * LEAST, LEAST, 2),
         ):
-            self.assertEqual(len(shares(expr, size, 8, lambda it=shared: it)), count)
+            self.assertEqual(parts_worth(expr, size, 8, lambda it=shared: it), count)
 
     def test_sums_of_products(self):
         x = tensor(numpy.ones((6, 4), int) if numpy else [[1] * 4] * 6)
@@ -276,16 +276,16 @@ class Threads(unittest.TestCase):
         ):
             self.assertEqual(products(expr), wanted)
         # What is shared is little beside so many products.
-        self.assertEqual(len(shares(x @ x.T, LEAST * 4, 4, lambda: LEAST * 4)), 4)
+        self.assertEqual(parts_worth(x @ x.T, LEAST * 4, 4, lambda: LEAST * 4), 4)
 
-    def test_nothing_is_asked_for_one_share(self):
+    def test_nothing_is_asked_for_one_part(self):
         def asked():
             raise AssertionError
 
         x = tensor(range(5))
         for size, workers in ((10**6, 1), (2 * LEAST - 1, 8), (0, 4)):
-            self.assertEqual(len(shares(x, size, workers, asked)), 1)
-        self.assertRaises(AssertionError, shares, x, 2 * LEAST, 2, asked)
+            self.assertEqual(parts_worth(x, size, workers, asked), 1)
+        self.assertRaises(AssertionError, parts_worth, x, 2 * LEAST, 2, asked)
 
     def test_what_parts_share(self):
         for _, library in (referring(), *[(None, it) for it in [library_of()] if it]):
@@ -312,7 +312,6 @@ class Threads(unittest.TestCase):
     def test_parts_of_answers(self):
         large = numpy.arange(5_003) * 7
         rows = large[:5_000].reshape(50, 100)
-        seen = set()
         for ask in Memory.ways(self):
             with unittest.mock.patch.object(threads, "LEAST", 1_000):
                 for workers in (1, 3, 8):
@@ -327,12 +326,9 @@ class Threads(unittest.TestCase):
                         found = ask(getattr(tensor(rows), name)(axis), workers=4)
                         wanted = getattr(rows, name)(axis)
                         numpy.testing.assert_array_equal(found.array(), wanted)
-        with unittest.mock.patch.object(threads, "POOL", None):
-            threads.each(lambda it: seen.add(threading.get_ident()) or it, [range(1)] * 3)
-        self.assertIn(threading.get_ident(), seen)
 
     @unittest.skipIf(numpy is None, "numpy isn't installed")
-    def test_shares_of_a_reduction(self):
+    def test_columns_of_a_reduction(self):
         array = numpy.arange(1, 5_004) * 7 % 1_001 - 500
         for ask in Memory.ways(self):
             with unittest.mock.patch("tensor_client.library.FEWEST", 1_000):
@@ -344,24 +340,33 @@ class Threads(unittest.TestCase):
                             self.assertEqual((found.values, found.truth), ([wanted], expr.truth))
                         self.assertEqual(ask(expr, workers=2, version=2).values, [wanted])
 
-    def test_a_part_that_fails(self):
-        done = []
+    def test_a_pool_stays(self):
+        for _, library in (referring(), *[(None, it) for it in [library_of()] if it]):
+            with unittest.mock.patch.dict(POOLS, clear=True):
+                self.assertEqual(library.pool(), library.pool())
+                self.assertEqual([*POOLS], [library.path])
+                library.pool_close(library.pool())
 
-        def work(part):
-            done.append(part.start)
-            if part.start:
-                raise client.NoMemory()
+    def test_a_fault_of_parts(self):
+        for _, library in (referring(), *[(None, it) for it in [library_of()] if it]):
+            asked = framed(tensor([1] * 8) + 1, Settings())
+            function = library.pool_evaluate, asked.header
+            arrays = arrays_of([as_memory(it) for it in asked.held])
+            for parts in (1, 4):
+                self.assertRaises(
+                    client.BadTensor, library.fill, function, arrays, 0, memory_for(8), parts
+                )
 
-        parts = [range(it, it + 1) for it in range(3)]
-        self.assertRaises(client.NoMemory, threads.each, work, parts)
-        self.assertEqual(sorted(done), [0, 1, 2])
-
-    @unittest.skipUnless(hasattr(os, "fork"), "there is no fork")
+    @unittest.skipUnless(hasattr(os, "fork") and library_of(), "there is no fork, or no library")
     def test_a_child(self):
-        threads.each(lambda it: None, [range(1)] * 3)
+        """A child has none of the threads of its parent, and opens its own pool."""
+        x = tensor([0] * 2 * LEAST) + 1
+        client.run(x, workers=2, way="library")
+        self.assertIn(library_of().path, POOLS)
         child = os.fork()
         if not child:
-            os._exit(0 if threads.POOL is None else 1)
+            is_right = not POOLS and client.run(x, workers=2, way="library").values == [1] * 2 * LEAST
+            os._exit(0 if is_right and POOLS else 1)
         self.assertEqual(os.waitpid(child, 0)[1], 0)
 
 

@@ -3,6 +3,7 @@ why it doesn't. They are skipped where numpy isn't installed."""
 
 import glob
 import inspect
+import operator
 import os
 import re
 import unittest
@@ -21,7 +22,9 @@ except ImportError:
 
 FOLDER = os.path.join(os.path.dirname(os.path.realpath(__file__)), "lines")
 # What isn't written alike for numpy and for the client, over arrays of a few values.
-OTHERS = "over_many_values", "of_some_versions", "of_numpy", "refused"
+OTHERS = "over_many_values", "of_some_versions", "of_numpy", "refused", "array_api"
+# What is compared once, over tensors and over expressions that haven't run.
+OF_USERS = "as_users_write_them", "by_all_arguments", "beside_arrays", "at_the_ends"
 DIMS = {"a": (3, 4), "b": (3, 4), "c": (2, 3, 4), "m": (4, 4), "v": 5, "w": 5}
 # Functions that are the client's own.
 OWN = {"answer", "compile", "contract", "placeholder", "request", "run", "tensor"}
@@ -36,7 +39,7 @@ def lines_of(name):
 def lines():
     """The lines of all files that are written alike."""
     names = sorted(os.path.basename(it)[:-4] for it in glob.glob(os.path.join(FOLDER, "*.txt")))
-    return [line for it in names if it not in OTHERS for line in lines_of(it)]
+    return [line for it in names if it not in OTHERS + OF_USERS for line in lines_of(it)]
 
 
 def paired(name):
@@ -55,11 +58,15 @@ def arrays(seed):
 
 
 def evaluated(line, module, names):
-    """What a line gives, with the names of a module and of arrays."""
+    """What a line gives, with the names of a module and of arrays. A line may have statements before
+    its value, which write into no array but their own."""
+    *statements, value = line.split("; ")
+    scope = {"np": module, "numpy": numpy, **names}
     with warnings.catch_warnings(), numpy.errstate(over="ignore"):
         # numpy says so where scalars wrap.
         warnings.simplefilter("ignore")
-        return eval(line, {"np": module, "numpy": numpy, **names})
+        exec("\n".join(statements), scope)
+        return eval(value, scope)
 
 
 def parts(found):
@@ -81,8 +88,12 @@ class Alike(OneWay):
                 self.assertEqual(it.dims, answered.dims)
                 it = answered.array()
             self.assertEqual(numpy.shape(it), by_numpy.shape)
-            self.assertEqual(numpy.asarray(it).dtype == bool, by_numpy.dtype == bool)
-            numpy.testing.assert_array_equal(it, by_numpy)
+            self.assertEqual(numpy.asarray(it).dtype.kind, by_numpy.dtype.kind)
+            if by_numpy.dtype.kind in "fc":
+                # Sums of fractions depend on the order in memory.
+                numpy.testing.assert_allclose(it, by_numpy, rtol=1e-12)
+            else:
+                numpy.testing.assert_array_equal(it, by_numpy)
 
 
 @unittest.skipIf(numpy is None, "numpy isn't installed")
@@ -111,6 +122,16 @@ class Lines(Alike):
                     for names in (tensors, {name: it + 0 for name, it in tensors.items()}):
                         with self.subTest(line=line, seed=seed):
                             self.agree(evaluated(line, client, names), wanted)
+
+    def test_lines_of_users(self):
+        for line in [line for name in OF_USERS for line in lines_of(name)]:
+            given = arrays(0)
+            tensors = {name: tensor(it) for name, it in given.items()}
+            exprs = {name: it + 0 for name, it in tensors.items()}
+            wanted = evaluated(line, numpy, given)
+            for names in (tensors, exprs):
+                with self.subTest(line=line):
+                    self.agree(evaluated(line, client, names), wanted)
 
     def test_names_of_some_versions(self):
         given = arrays(1)
@@ -175,6 +196,34 @@ class Refused(unittest.TestCase):
             for name in names:
                 if not name.startswith("_") and name not in refused:
                     self.assertTrue(hasattr(owner, name), name)
+
+    @unittest.skipIf(numpy is None, "numpy isn't installed")
+    def test_names_of_the_array_api(self):
+        x = tensor([[5]])
+        self.assertIs(x.__array_namespace__(), client)
+        owners = {"": (client, numpy), "x": (x, x.array())}
+        owners.update((it, (getattr(client, it), getattr(numpy, it))) for it in ("linalg", "fft"))
+        for name, who in paired("array_api"):
+            owner, _, last = name.rpartition(".")
+            ours, numpys = owners[owner]
+            with self.subTest(name=name):
+                if who == "python":
+                    self.assertFalse(hasattr(ours, last))
+                    self.by_other_methods(last, ours, numpys)
+                elif who == "later":
+                    self.assertEqual(hasattr(ours, last), hasattr(numpys, last))
+                else:
+                    self.assertTrue(hasattr(ours, last))
+                    self.assertEqual(who != "numpy", ours is not numpys and last in dir(ours))
+        self.assertRaises(TypeError, operator.setitem, x, 0, 1)
+
+    def by_other_methods(self, name, x, array):
+        """Python's own way with a method that isn't there: by one that isn't in place."""
+        if name == "__complex__":
+            self.assertEqual(complex(x), complex(array))
+        else:
+            wanted = getattr(operator, f"__{name[3:]}")(array, array)
+            self.assertEqual(getattr(operator, name)(x, x).tolist(), wanted.tolist())
 
     def test_a_name_that_is_none(self):
         with self.assertRaisesRegex(AttributeError, "'arange'"):

@@ -21,6 +21,9 @@ def pytest_addoption(parser):
     group.addoption("--all", action="store_true", help="fail where a test is skipped")
     group.addoption("--count", type=int, help="how many cases to draw of each kind")
     group.addoption("--seed", type=int, default=1, help="the seed of drawn cases")
+    group.addoption(
+        "--crowd-seconds", type=float, default=10, help="how long test_crowd.py has each crowd ask"
+    )
     group.addoption("--places", action="store_true", help="test_fuzz.py asks bench/places too")
 
 

@@ -5,9 +5,11 @@ program and for the kit, so nothing is proved and no program has to be built. A 
 program is added to NOTICED, and one that makes no other program to TAKEN.
 """
 
+import glob
 import os
 import re
 import shutil
+import subprocess
 import sys
 
 import pytest
@@ -24,6 +26,10 @@ COMMANDS = [it.removeprefix("tensor_") for it in PROGRAMS]
 CHECKED = f"tensor_run is built for {CPU} from all that is here\n"
 # Options that the program of lines and that of frames read, and one that they refuse themselves.
 OPTIONS = [["--log"], ["--most-steps", "9"], ["--most-steps=9"], ["--most-workers=2", "--log"], ["--other"]]
+
+# Scripts that a user calls by their names.
+TOOLS = sorted(it for it in glob.glob(f"{TOP}/tools/*") if os.path.isfile(it) and os.access(it, os.X_OK))
+SCRIPTS = [*TOOLS, *(f"{TOP}/{it}" for it in ("test", "install", "uninstall", "build/library", "build/program"))]
 
 
 def version():
@@ -90,6 +96,29 @@ def test_a_program_has_a_manual_page(named, name):
     if not shutil.which("groff"):
         pytest.skip("no groff (Debian's groff)")
     assert named.run("groff", "-man", "-Tutf8", "-ww", "-z", text=page) == ("", "", ANSWERED)
+
+
+def calls():
+    """The library, and the calls that it has."""
+    declared = re.findall(r"(?m)^int64_t (tensor_\w+)\(", text_of(os.path.join(TOP, "include", "tensor.h")))
+    return ["tensor", *declared]
+
+
+@pytest.mark.parametrize("name", calls())
+def test_a_call_has_a_manual_page(named, name):
+    page, _, status = named.run("build/man", "3", name)
+    assert status == ANSWERED and f".TH {name} 3 " in page
+    assert name == "tensor" or f"\nint64_t {name}(" in page
+    assert re.search(rf"\n{name} \\- [a-z][^.\n]+\n\.SH SYNOPSIS", page)
+    others = [f"{it}(3)" for it in (calls()[1:] if name == "tensor" else ["tensor"])]
+    assert page.endswith(f".SH SEE ALSO\n{', '.join(others)}.\n")
+    if not shutil.which("groff"):
+        pytest.skip("no groff (Debian's groff)")
+    assert named.run("groff", "-man", "-Tutf8", "-ww", "-z", text=page) == ("", "", ANSWERED)
+
+
+def test_the_calls_that_have_a_page(named):
+    assert named.run("build/man", "--calls") == ("\n".join(calls()) + "\n", "", ANSWERED)
 
 
 @pytest.mark.parametrize("name", ["lines", "frames"])
@@ -271,6 +300,7 @@ def test_the_list_has_what_is_installed(installing, prefix):
     assert sorted(found) == [it for it in files_below(prefix) if not it.endswith("own.1")]
     assert {"lib/libtensor.a", "lib/libtensor.so", "include/tensor.h"} < {*found}
     assert {f"share/man/man1/{it}.1" for it in installing.programs.values()} < {*found}
+    assert {f"share/man/man3/{it}.3" for it in calls()} < {*found}
 
 
 def test_installed_programs_answer(installing, prefix):
@@ -299,6 +329,11 @@ def test_units_for_systemd(installing, prefix):
     if not shutil.which("systemd-analyze"):
         pytest.skip("no systemd-analyze (Debian's systemd)")
     assert installing.run("systemd-analyze", "verify", *units) == ("", "", ANSWERED)
+    for it in units:
+        if it.endswith(".service"):
+            # Exposed by less than 1 of 10, as systemd rates what a unit forbids.
+            words = ("--offline=true", "--threshold=10", "--no-pager", it)
+            assert installing.run("systemd-analyze", "security", *words)[2] == ANSWERED
 
 
 def test_the_client_is_installed(installing, prefix, tmp_path):
@@ -343,7 +378,7 @@ def test_what_is_not_ours_stays(installing, prefix):
 
 # What carries the version.
 VERSIONS = {
-    "CHANGELOG.md": r"(?m)^## (\S+)",
+    "CHANGELOG.md": r"(?m)^## (\d\S*)",
     "python/tensor_client/__init__.py": r'(?m)^__version__ = "(.+)"',
     "include/tensor.h": r'(?m)^#define TENSOR_VERSION "(.+)"',
 }
@@ -353,3 +388,10 @@ VERSIONS = {
 def test_a_file_carries_the_version(path):
     found = re.search(VERSIONS[path], text_of(os.path.join(TOP, path)))
     assert found and found[1] == version()
+
+
+@pytest.mark.parametrize("script", SCRIPTS, ids=os.path.basename)
+def test_scripts_print_their_usage(script):
+    ran = subprocess.run([script, "--help"], capture_output=True, text=True, check=False)
+    assert (ran.returncode, ran.stderr) == (ANSWERED, "")
+    assert os.path.basename(script) in ran.stdout.split("\n")[0]

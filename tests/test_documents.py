@@ -39,7 +39,7 @@ PAGES = [
 ]
 # An example of these pages uses files and servers of examples above it, so a page is one test.
 IN_ORDER = {"docs/MANY.md", "docs/SERVE.md"}
-LINKED = ["*.md", "docs/*.md", "docs/pictures/*.md", "examples/**/*.md", "crates/*/*.md"]
+LINKED = ["*.md", "docs/*.md", "bench/pictures/*.md", "examples/**/*.md", "crates/*/*.md"]
 LINK = re.compile(r"\]\(([^)#\s]*)(?:#([^)\s]*))?\)")
 CALLER = re.compile(r"\]\(\.\./uses/src/(\w+\.rt)\)")
 MOST_QUOTED = 25

@@ -151,6 +151,23 @@ def test_nested_lets():
     assert client.end() == ("", 0)
 
 
+def joined(parts):
+    """Expressions of lists, joined by halves."""
+    if len(parts) == 1:
+        return parts[0]
+    half = len(parts) // 2
+    return f'["concat",{joined(parts[:half])},{joined(parts[half:])},0]'
+
+
+def test_many_steps():
+    # Each row is cut out by a step and added up by another: 1,400 steps, and the root.
+    count = 700
+    rows = [f'["sum",["slice","a",[{row},0],[1,2]],[1]]' for row in range(count)]
+    text = request(f'"a":{{"dims":[{count},2]}}', joined(rows), version=3)
+    data = frame(text, [*range(count), *(row**2 for row in range(count))])
+    assert FRAMES.run(data) == (FRAMES.answers(line_of([it + it**2 for it in range(count)], [count])), "", 0)
+
+
 def writes_of(data):
     """The pieces in which the program writes its answers to these bytes: over a socket that keeps
     them apart."""

@@ -9,7 +9,8 @@ are drawn.
 
 tests/support/library.c also computes each answer in parts, and runs its plan, whole, cut and
 spoilt. It does so on eight threads, with each request for memory refused, and under valgrind.
-test_calls.py has the calls that only Python makes.
+test_calls.py has the calls that only Python makes. tests/support/built.cpp and the example in Rust print
+the headers that the builders make.
 """
 
 import json
@@ -25,7 +26,7 @@ import pytest
 
 from calling import ARCHIVE, MOST, Library, header
 from framing import GREATEST, LEAST, NoFrame, frame, framed, is_frames_own, parts
-from fuzzing import grammar, reference, sharing, spoiling
+from fuzzing import grammar, operations, reference, sharing, spoiling
 from fuzzing.rules import FRAME_VERSIONS
 from hostile import SUPPORT, TOP
 from request_cases import PATHS, VERSION_3, cases_of
@@ -39,9 +40,16 @@ MOST_KIB_MORE = 2_048
 # How many bytes a call for a part may hold at most, beside what it packs.
 MOST_BESIDE = 2**20
 # One of so many short frames is run under valgrind; a short frame has at most these bytes.
-EVERY, FEW_BYTES = 12, 4_000
+EVERY, FEW_BYTES = 24, 4_000
 SECONDS = 600
 NO_ARRAYS = 2**64 - 1
+# What the builders in C++ and Rust make, and the inputs: their dims and values.
+BUILT = os.path.join(TOP, "tests", "cases", "built.cases")
+BUILT_OVER = {
+    "a": ([2, 3], [7, -7, LEAST, GREATEST, 0, 3]),
+    "b": ([2, 3], [2, 0, -1, 1, 5, 7]),
+    "c": ([3, 2], [1, -2, 3, -4, 5, -6]),
+}
 EIGEN = "/usr/include/eigen3"
 TWO, NAMES = '"a":{"dims":[2]},"b":{"dims":[2]}', '"B":{"dims":[]},"a":{"dims":[]},"":{"dims":[]}'
 DATA = '"a":{"dims":[2],"data":[1,2]}'
@@ -268,13 +276,61 @@ def test_c_under_valgrind(caller, room, few):
     assert_answers(output(*words, written_to(room / "for valgrind", few)), few)
 
 
-def test_cpp_example(room):
+@pytest.fixture(scope="session")
+def compiled_cpp(room):
+    """Compiles a program in C++ against the library, and returns its path."""
     compiler = next(filter(shutil.which, ("c++", "g++", "clang++")), None)
-    if not compiler or not os.path.isdir(EIGEN):
-        pytest.skip("no C++ compiler or no Eigen (Debian's g++ libeigen3-dev)")
-    words = [compiler, "-std=c++20", "-Wall", "-Wextra", "-pthread", f"-I{TOP}/include", "-isystem"]
-    output(*words, EIGEN, f"{TOP}/examples/cpp/arrays.cpp", ARCHIVE, "-o", room / "arrays")
-    assert output(room / "arrays") == "5000000\n5000000\nfault 8 UnknownInput\n"
+    if not compiler:
+        pytest.skip("no C++ compiler (Debian's g++)")
+
+    def compile_one(source, *words):
+        program = room / os.path.basename(source)[: -len(".cpp")]
+        warnings = ["-Wall", "-Wextra", "-Werror", "-pthread", f"-I{TOP}/include", *words]
+        output(compiler, "-std=c++20", *warnings, source, ARCHIVE, "-o", program)
+        return program
+
+    return compile_one
+
+
+def test_cpp_example(compiled_cpp):
+    if not os.path.isdir(EIGEN):
+        pytest.skip("no Eigen (Debian's libeigen3-dev)")
+    example = compiled_cpp(f"{TOP}/examples/cpp/arrays.cpp", "-isystem", EIGEN)
+    assert output(example) == "5000000\n5000000\nfault 8 UnknownInput\n"
+
+
+def test_cpp_example_of_expressions(compiled_cpp):
+    example = compiled_cpp(f"{TOP}/examples/cpp/expressions.cpp")
+    assert output(example) == "2 13 18 1 100 25 \n0 1 \nfault 12 ShapeMismatch\n"
+
+
+def assert_built(got):
+    """Compares the headers that a builder makes with the expressions written by hand: node by node,
+    and by their answers."""
+    library, headers = Library(), got.split("\n")[:-1]
+    with open(BUILT, encoding="ascii") as file:
+        by_hand = file.read().split("\n")[1:-1]
+    assert len(headers) == len(by_hand)
+    for built, expr in zip(headers, by_hand):
+        asked = json.loads(built)
+        named = {it: "abc"[int(it)] for it in sorted(asked["inputs"])}
+        text = json.dumps(asked["expr"], separators=(",", ":"))
+        for name, other in {**named, "t0": "s", "t1": "t"}.items():
+            text = text.replace(f'"{name}"', f'"{other}"')
+        assert text == expr
+        inputs = ",".join(f'"{it}":{{"dims":{BUILT_OVER[it][0]}}}' for it in named.values())
+        values = [value for it in named.values() for value in BUILT_OVER[it][1]]
+        wanted = library.line(header(inputs, expr, 3), values)
+        assert wanted.startswith("{") and library.line(built, values) == wanted
+
+
+def test_built_expressions_have_each_operation():
+    with open(BUILT, encoding="ascii") as file:
+        assert {*re.findall(r'\["(\w+)"', file.read())} == {"let", *operations.OPERATIONS_OF[3]}
+
+
+def test_expressions_in_cpp(compiled_cpp):
+    assert_built(output(compiled_cpp(f"{SUPPORT}/built.cpp")))
 
 
 @pytest.fixture(scope="session")
@@ -292,4 +348,9 @@ def test_rust(rust, path, frames):
 
 
 def test_rust_example(rust):
-    assert output(rust / "tensor") == "[11, 22, 33] of dims [3]\nfault 8 UnknownInput\n"
+    wanted = "[11, 22, 33] of dims [3]\nfault 12 ShapeMismatch\n[-48]\n[27]\n"
+    assert output(rust / "tensor") == wanted
+
+
+def test_expressions_in_rust(rust):
+    assert_built(output(rust / "built"))

@@ -176,6 +176,32 @@ def test_limits(server, options, wanted):
     assert asked(server, options, *texts) == expected(server, *lines)
 
 
+def most_bytes(number):
+    return ["--most-bytes", str(number)]
+
+
+@each_server
+def test_most_bytes(server):
+    """A request of as many bytes is answered; a longer one is too long, and the next is answered."""
+    (text, line, _), (other, plain, _) = NEG, PLAIN
+    size = len(server.sent(text)) - (server is LINES)
+    assert len(server.sent(other)) - (server is LINES) < size
+    for most, wanted in (size, line), (size - 1, TOO_LONG):
+        assert asked(server, most_bytes(most), text, other, text) == expected(server, wanted, plain, wanted)
+    assert asked(server, [*most_bytes(0), *most_bytes(GREATEST)], text) == expected(server, line)
+    assert asked(server, most_bytes(0), text) == expected(server, TOO_LONG)
+
+
+@each_server
+def test_most_bytes_are_not_kept(server):
+    """A request that fits in no memory is too long by the limit, and lacks memory without it."""
+    values = 2**20
+    text = text_of(f'"a":{{"dims":[{values}],"data":{[1000000] * values}}}', '["sum","a",[0]]')
+    for options, wanted in (most_bytes(10_000), TOO_LONG), ([], NO_MEMORY):
+        got = server.run(server.requests(text, PLAIN[0]), options, before=LITTLE_MEMORY)
+        assert got == expected(server, wanted, PLAIN[1]), options
+
+
 MISSING, NOT_A_NUMBER = "a number is missing", "the value is not a whole number below 2^64"
 NO_OPTION, NO_VALUE = "no such option", "takes no value"
 # Options that are refused, with the name of the first that is wrong, and why.
@@ -184,6 +210,8 @@ REFUSED = {
     "--log --most-workers": ("--most-workers", MISSING),
     "--most-workers 1 --most-steps": ("--most-steps", MISSING),
     "--most-steps x": ("--most-steps", NOT_A_NUMBER),
+    "--most-bytes x": ("--most-bytes", NOT_A_NUMBER),
+    "--log --most-bytes": ("--most-bytes", MISSING),
     "--most-steps -1": ("--most-steps", NOT_A_NUMBER),
     "--most-steps=": ("--most-steps", NOT_A_NUMBER),
     "--most-workers=1=2": ("--most-workers", NOT_A_NUMBER),

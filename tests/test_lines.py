@@ -27,8 +27,8 @@ MOST_BYTES_AT_ALL = 512_000_000
 TOO_LONG = "error 1 TooLong\n"
 ROW = request(SCALAR, '"a"')
 SHARED_TEXT = request(MATRICES, SHARED, block=1)
-# How many values are worth the start of four workers, if they are squared six times.
-DEAR = 262_144
+# How many values are worth the start of four workers, if they are squared 23 times.
+DEAR, SQUARES = 262_144, 23
 
 FORMS = {
     "no line": (b"", ""),
@@ -74,7 +74,8 @@ STARTS = {
 
 @pytest.mark.parametrize("blocks, starts", STARTS.values(), ids=STARTS)
 def test_starts(refusals, blocks, starts):
-    expr = '["sum",' + '["square",' * 6 + f'["broadcast","a",[{DEAR}]]' + "]" * 6 + ",[0]]"
+    dear = '["square",' * SQUARES + f'["broadcast","a",[{DEAR}]]' + "]" * SQUARES
+    expr = f'["sum",{dear},[0]]'
     asked = [request('"a":{"dims":[1],"data":[1]}', expr, workers=64, block=it) for it in blocks]
     got = refusals.run(b"\n".join(asked), LINES_PROGRAM)
     assert (got, refusals.starts) == ((line_of([DEAR], []) * len(blocks), "", 0), starts)

@@ -1,6 +1,7 @@
 """Rules of the prose of pages and comments: phrases that must not stand, short sentences and cells.
 
-A new phrase is a line of PHRASES, with what to write instead. It has no exceptions.
+A new phrase is a line of PHRASES, with what to write instead. It has no exceptions. A new beginning that
+names nothing is a word of NAMELESS.
 """
 
 import glob
@@ -14,6 +15,9 @@ TOP = os.path.dirname(os.path.dirname(os.path.abspath(__file__)))
 PATTERNS = [
     "README.md",
     "docs/BELIEVED.md",
+    "docs/HEADLINE.md",
+    "docs/PERFORMANCE.md",
+    "python/README.md",
     "docs/REQUEST.md",
     "docs/FRAMES.md",
     "docs/MANY.md",
@@ -23,7 +27,7 @@ PATTERNS = [
     "docs/DECISIONS.md",
     "docs/CALLS.md",
     "docs/GLOSSARY.md",
-    "docs/pictures/README.md",
+    "bench/pictures/README.md",
     "examples/README.md",
     "crates/*/README.md",
     "crates/*/CALLING.md",
@@ -46,6 +50,14 @@ PHRASES = {
     r"\b[Tt]hat of\b": "the noun again",
     r"\b[Tt]hose of\b": "the noun again",
 }
+# How a doc comment doesn't begin, since its reader sees it alone, in a tooltip.
+NAMELESS = re.compile(r"(?:The same|That of|Those of|The one|Of an?)\b")
+COMMENT = re.compile(r"(?m)^\s*//[/!]? ?(.*)$")
+# In the middle of a sentence of a comment these may stand: the noun is near.
+NEAR = (r"\b[Tt]hat of\b", r"\b[Tt]hose of\b")
+DOC_COMMENT = re.compile(r"(?m)(?:^[ \t]*///.*\n)+|(?:^[ \t]*//!.*\n)+")
+SOURCES = sorted(glob.glob(os.path.join(TOP, "crates/*/**/*.rt"), recursive=True))
+CRATES = sorted({os.path.relpath(it, TOP).split(os.sep)[1] for it in SOURCES})
 SENTENCE_WORDS, CELL_WORDS, README_LINES = 35, 25, 150
 FENCE = re.compile(r"(?ms)^```.*?^```$")
 SENTENCE = re.compile(r"(?<=[.:;?!])\s+(?=[A-Z`\[*])")
@@ -102,3 +114,31 @@ def test_the_readme_is_short():
 @pytest.mark.parametrize("pattern", PATTERNS)
 def test_pages_are_there(pattern):
     assert glob.glob(os.path.join(TOP, pattern))
+
+
+def sources_of(crate):
+    return [os.path.relpath(it, TOP) for it in SOURCES if it.split(os.sep)[-3:] and f"{os.sep}{crate}{os.sep}" in it]
+
+
+def words_of(comment):
+    """The text of a comment of several lines, on one line."""
+    return " ".join(COMMENT.sub(r"\1", comment).split())
+
+
+@pytest.mark.parametrize("crate", CRATES)
+def test_each_doc_comment_names_its_noun(crate):
+    found = []
+    for file in sources_of(crate):
+        comments = [words_of(it) for it in DOC_COMMENT.findall(text_of(file))]
+        found += [(file, it) for it in comments if NAMELESS.match(it)]
+    assert not found, "begin with the noun"
+
+
+@pytest.mark.parametrize("crate", CRATES)
+def test_comments_have_no_phrase_that_has_a_plain_word(crate):
+    found = []
+    for file in sources_of(crate):
+        text = words_of("\n".join(it[0] for it in re.finditer(COMMENT, text_of(file))))
+        phrases = [it for it in PHRASES if it not in NEAR]
+        found += [(file, it, PHRASES[by]) for by in phrases for it in re.findall(by, text)]
+    assert not found, "each phrase, and what to write instead"

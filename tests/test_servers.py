@@ -32,7 +32,7 @@ TAKEN = '["take",["mul","p","p"],["argmax","p",0],0]'
 LET = request(MATRICES, f'["let","p",{PRODUCT},["add",["cumsum","p",0],{TAKEN}]]', version=3, block=1)
 # How many requests for memory a program makes that reads its options, before it reads anything else;
 # where one of these is refused the program ends so, and answers nothing.
-FOR_OPTIONS, NO_OPTIONS = 3, (b"", "Error: Kind(OutOfMemory)\n", 1)
+FOR_OPTIONS, NO_OPTIONS = 3, (b"", "error 15 NoMemory\n", 1)
 
 
 @each_server

@@ -13,33 +13,23 @@ import concurrent.futures
 import contextlib
 import os
 import random
-import resource
-import shutil
 import signal
-import socket
-import subprocess
-import tempfile
-import time
 
 import pytest
 
-from framing import SIZES, frame
-from hostile import NO_MEMORY, READ_FAULT, SECONDS, WRITE_FAULT, kib, line_of
+from framing import SIZES
+from hostile import NO_MEMORY, READ_FAULT, WRITE_FAULT, kib, line_of
 from hostile import request as text_of
-from servers import FRAMES, LINES, SERVERS, most
+from servers import FRAMES, LINES, most
+from sockets import ADDRESSES, LISTS, MANY, PIECE, Client, Seen, is_there, no_request, served, until, wide
 
 pytestmark = pytest.mark.usefixtures("programs")
 
 CLIENTS, REQUESTS = 8, 1_000
-# One of how many requests of a client has threads, is a fault, or has many values; and how many these are.
-THREADED, FAULTY, LONG, FEW, MANY = 50, 10, 200, 3, 10_000
+# One of how many requests of a client has threads, is a fault, or has MANY values; how many others have.
+THREADED, FAULTY, LONG, FEW = 50, 10, 200, 3
 SEED, GARBAGE, CUTS = 1, 200, 100
-ENDLESS, PIECE = 64, 1 << 20
-# After how many seconds without a new client socat ends, also where the tests were killed.
-IDLE = 600
-# How many bytes a process may have: what is read of the lists in LISTS takes more.
-MOST_BYTES = 512_000_000
-LISTS = b"[" + b"[[0]]," * 2_500_000 + b"[]]"
+ENDLESS = 64
 # How many KiB more than before socat may have, and a request that never ends may take more than others;
 # and how many a line takes, which is kept until it is longer than a line may be.
 MOST_KIB_MORE = 512
@@ -59,160 +49,10 @@ def asked(server, client, number):
     return server.sent(text_of(inputs, '["add","a","b"]', **how)), server.answer(line)
 
 
-def no_request(server, data, values=()):
-    """The bytes that send what is no request, and behind a frame's header these values."""
-    return data + b"\n" if server is LINES else frame(data, values)
-
-
-def wide(server):
-    """The bytes of a request whose answer is many times as long."""
-    return server.sent(text_of('"a":{"dims":[1],"data":[7]}', f'["broadcast","a",[{MANY}]]'))
-
-
-def until(is_so):
-    """Whether something becomes so in time."""
-    end = time.monotonic() + SECONDS
-    while not is_so():
-        if time.monotonic() > end:
-            return False
-        time.sleep(0.01)
-    return True
-
-
-def stat(number):
-    """The state of a process and its session; Z, which has ended, also where it isn't there."""
-    try:
-        with open(f"/proc/{number}/stat", encoding="latin-1") as file:
-            state, _, _, session = file.read().rpartition(") ")[2].split()[:4]
-    except OSError:
-        return "Z", 0
-    return state, int(session)
-
-
-def is_there(number):
-    return stat(number)[0] != "Z"
-
-
-def limit():
-    resource.setrlimit(resource.RLIMIT_AS, (MOST_BYTES, MOST_BYTES))
-
-
-def free_port():
-    with socket.socket() as found:
-        found.bind(("127.0.0.1", 0))
-        return found.getsockname()[1]
-
-
-class Service:
-    """socat on an address, which starts a program for each connection, in a folder."""
-
-    def __init__(self, room, server, by_tcp, options=()):
-        self.server, self.room, self.log = server, room, os.path.join(room, "log")
-        os.symlink(server.program, os.path.join(room, "program"))
-        listen, self.address = "UNIX-LISTEN:socket", os.path.join(room, "socket")
-        if by_tcp:
-            self.address = "127.0.0.1", free_port()
-            listen = f"TCP-LISTEN:{self.address[1]},bind=127.0.0.1,reuseaddr,nodelay"
-        command = " ".join(["./program", *options])
-        with open(self.log, "wb") as log:
-            self.child = subprocess.Popen(
-                ["socat", f"{listen},fork,accept-timeout={IDLE}", f"EXEC:{command},nofork"],
-                cwd=room,
-                stdin=subprocess.DEVNULL,
-                stderr=log,
-                preexec_fn=limit,
-                start_new_session=True,
-            )
-
-    def connect(self):
-        made = socket.socket(socket.AF_INET if isinstance(self.address, tuple) else socket.AF_UNIX)
-        made.settimeout(SECONDS)
-        made.connect(self.address)
-        return made
-
-    def listens(self):
-        """Whether a client can connect, which then asks nothing."""
-        with contextlib.suppress(OSError), Client(self).socket:
-            return True
-        return False
-
-    def processes(self):
-        """The processes that socat has started, and what those have, also where socat has ended."""
-        own = self.child.pid
-        numbers = {int(it) for it in os.listdir("/proc") if it.isdigit()} - {own}
-        return {it for it in numbers if stat(it)[1] == own}
-
-    def is_idle(self):
-        return not self.processes()
-
-    def holds(self):
-        """How many files socat has open, and how much memory."""
-        number = self.child.pid
-        return len(os.listdir(f"/proc/{number}/fd")), kib(number, "VmRSS")
-
-    def logged(self):
-        with open(self.log, encoding="utf-8", errors="replace") as log:
-            return log.readlines()
-
-    def end(self):
-        self.child.terminate()
-        return self.child.wait(SECONDS)
-
-
-class Client:
-    """A connection, and the process that answers it."""
-
-    def __init__(self, service):
-        before = service.processes()
-        self.server, self.socket = service.server, service.connect()
-        # Nobody else connects meanwhile.
-        until(lambda: service.processes() - before)
-        self.process = max(service.processes() - before, default=None)
-
-    def read(self, count):
-        """So many bytes, or fewer at the end."""
-        found = bytearray()
-        while len(found) < count and (more := self.socket.recv(min(count - len(found), PIECE))):
-            found += more
-        return bytes(found)
-
-    def ask(self, given, answer):
-        """Asks, and sees that this is the answer."""
-        self.socket.sendall(given)
-        got = self.read(len(answer))
-        assert got == answer, f"{given!r:.200}"
-
-    def ask_a_little(self):
-        text = text_of('"a":{"dims":[1],"data":[5]}', '"a"')
-        self.ask(self.server.sent(text), self.server.answer(line_of([5], [1])))
-
-    def end(self):
-        """Sees that nothing stands behind the last answer."""
-        with self.socket:
-            self.socket.shutdown(socket.SHUT_WR)
-            assert self.read(1) == b""
-
-
-SERVICES = {
-    f"{server.name} by {'TCP' if by_tcp else 'a Unix socket'}": (server, by_tcp)
-    for server in SERVERS
-    for by_tcp in (False, True)
-}
-
-
-@pytest.fixture(params=SERVICES.values(), ids=SERVICES)
+@pytest.fixture(params=ADDRESSES.values(), ids=ADDRESSES)
 def service(request):
-    """A service that listens, and holds nothing of the clients that asked nothing."""
-    if not shutil.which("socat"):
-        pytest.skip("no socat (Debian's socat)")
-    # The path of a socket has to be short.
-    with tempfile.TemporaryDirectory(prefix="service-") as room:
-        made = Service(room, *request.param)
-        try:
-            assert until(made.listens) and until(made.is_idle)
-            yield made
-        finally:
-            made.end()
+    with served(request.param) as made:
+        yield made
 
 
 def good(client, number):
@@ -264,8 +104,8 @@ def close_in_the_middle(service):
 
 def test_many_clients(service):
     before = service.holds()
-    clients = [Client(service) for _ in range(CLIENTS)]
-    spoilt, silent, endless = others = [Client(service) for _ in range(3)]
+    clients = [Seen(service) for _ in range(CLIENTS)]
+    spoilt, silent, endless = others = [Seen(service) for _ in range(3)]
     assert len(service.processes()) == CLIENTS + 3
     read_nothing(silent)
     jobs = [(good, it, number) for number, it in enumerate(clients)]
@@ -287,7 +127,7 @@ def test_many_clients(service):
 
 
 def test_little_memory(service):
-    client = Client(service)
+    client = Seen(service)
     client.ask(no_request(service.server, LISTS), service.server.answer(NO_MEMORY))
     client.ask_a_little()
     client.end()
@@ -296,7 +136,7 @@ def test_little_memory(service):
 
 def test_sigterm(service):
     """SIGTERM to the process of a client, and then to socat, beside clients that are answered."""
-    kept, lost = Client(service), Client(service)
+    kept, lost = Seen(service), Seen(service)
     for it in kept, lost:
         it.ask_a_little()
     os.kill(lost.process, signal.SIGTERM)
@@ -322,14 +162,16 @@ ASKED = {
 }
 
 
-@pytest.mark.parametrize("service", [(*it, OPTIONS) for it in SERVICES.values()], ids=SERVICES, indirect=True)
-def test_options(service):
-    client = Client(service)
-    for expr, (line, _) in ASKED.items():
-        text = text_of('"a":{"dims":[3],"data":[1,2,3]}', expr)
-        client.ask(service.server.sent(text), service.server.answer(line))
-    client.end()
-    assert until(service.is_idle)
-    for number, (said, (_, entry)) in enumerate(zip(service.logged(), ASKED.values()), 1):
+@pytest.mark.parametrize("at", ADDRESSES.values(), ids=ADDRESSES)
+def test_options(at):
+    with served(at, OPTIONS) as service:
+        client = Client(service)
+        for expr, (line, _) in ASKED.items():
+            text = text_of('"a":{"dims":[3],"data":[1,2,3]}', expr)
+            client.ask(service.server.sent(text), service.server.answer(line))
+        client.end()
+        assert until(service.is_idle)
+        logged = service.logged()
+    for number, (said, (_, entry)) in enumerate(zip(logged, ASKED.values()), 1):
         assert said.startswith(f"request={number} ") and f" {entry} us=" in said
-    assert len(service.logged()) == len(ASKED)
+    assert len(logged) == len(ASKED)

@@ -17,9 +17,9 @@ from hostile import line_of, request
 
 pytestmark = pytest.mark.usefixtures("programs")
 
-# In nanoseconds: a pool, a worker's start, a leaf; and of a thousand values that are written,
-# joined, negated, squared, read along a view, added up, multiplied and added up, packed, slid over.
-POOL, START, LEAF = 40_000, 60_000, 400
+# In nanoseconds: a pool, a worker's start counted three times, a leaf; and of a thousand values that are
+# written, joined, negated, squared, read along a view, added up, multiplied and added up, packed, slid over.
+POOL, START, LEAF = 40_000, 180_000, 400
 WRITTEN, JOINED, NEG, SQUARE, WALK, ADDED_UP = 1_000, 1_200, 200, 400, 250, 400
 MULTIPLIED, PACKED, SLID = 200, 350, 2_000
 MOST_SHARDS = 1_024
@@ -122,11 +122,11 @@ def crossing(count, each, block):
 
 
 def crossings():
-    """Just below and just above where a second, a fourth and a sixty-fourth worker are worth it."""
+    """Just below and just above where a second, a fourth and a 32nd worker are worth it."""
     found = {}
     for count, expr_of, each, block in (
-        *((it, lambda places: over(places, "square"), SQUARE + WALK, 65_536) for it in (2, 4)),
-        (64, dearest, DEAREST, 4_096),
+        *((it, lambda places: over(places, "square", 4), 4 * SQUARE + WALK, 65_536) for it in (2, 4)),
+        (32, dearest, DEAREST, 4_096),
     ):
         above = crossing(count, each, block)
         for name, places in (("just below", above - 1), ("at", above)):
@@ -158,7 +158,7 @@ def dear_product(block):
 
 
 # Places of two sums, of which one is cheap and one is dear.
-SAME = 262_144
+SAME, DEARER = 262_144, 20
 
 
 def same(each, block):
@@ -261,17 +261,17 @@ REQUESTS = {
     ),
     "a sum of as many dear ones": (
         ONE,
-        summed(over(SAME, "square", 6)),
+        summed(over(SAME, "square", DEARER)),
         tensor(SAME),
-        each_block(lambda block: [same(6 * SQUARE, block)], (64, 16_384), (2, 16_384)),
+        each_block(lambda block: [same(DEARER * SQUARE, block)], (64, 16_384), (2, 16_384)),
     ),
     "both and more, each by its own cost": (
         ONE,
         f'["add",{summed(over(SAME, "neg"))},'
-        f'["add",{summed(over(SAME, "square", 6))},{summed(COMPUTED)}]]',
+        f'["add",{summed(over(SAME, "square", DEARER))},{summed(COMPUTED)}]]',
         tensor(MANY),
         each_block(
-            lambda block: [same(NEG, block), same(6 * SQUARE, block), *dear_sum(block)],
+            lambda block: [same(NEG, block), same(DEARER * SQUARE, block), *dear_sum(block)],
             (64, 16_384),
             (4, 16_384),
         ),
@@ -306,7 +306,7 @@ REQUESTS = {
         summed(f'["convolve",["broadcast","a",[{MANY}]],"a",[0]]'),
         tensor(MANY),
         {
-            (2, 65_536): [
+            (4, 65_536): [
                 ranges(MANY, WALK, 65_536),
                 Step(MANY * (MULTIPLIED + SLID) // 1_000, MANY, MANY // 65_536, 16),
                 shards(1, MANY, (ADDED_UP,), 65_536),
@@ -344,7 +344,7 @@ REQUESTS = {
         ONE,
         f'["sum",["reshape",{RUNS},[1000,100]],[0]]',
         tensor(1_000, 100),
-        {(64, RUN): [added(100, RUN, 1)], (4, 1_000): [added(100, 1_000, 15)]},
+        {(64, RUN): [added(100, RUN, 1)], (4, 1_000): [added(100, 1_000, 12)]},
     ),
     # The operand is computed before.
     "runs of one": (
@@ -362,7 +362,7 @@ REQUESTS = {
         '"one":{"dims":[1,1],"data":[1]}',
         f'["sum",{APART},[1]]',
         tensor(100, 1_000),
-        {(4, 1_000): [added(1_000, 1_000, 16)]},
+        {(4, 1_000): [added(1_000, 1_000, 12)]},
     ),
 }
 

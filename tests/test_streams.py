@@ -179,7 +179,7 @@ def test_interrupted(refusals, name, calls):
     assert refusals.interrupted >= 3 * calls
 
 
-MOST_WORKERS, TIMES = 256, 24
+MOST_WORKERS, TIMES = 256, 72
 
 
 class Starts(NamedTuple):

@@ -1,4 +1,4 @@
-"""The Debian packages of a release: which file goes into which, and what each says of itself."""
+"""The Debian packages of a release: which files each has, and its description."""
 
 import email.utils
 
@@ -54,13 +54,17 @@ OWN_CONTROL = {
 }
 
 
+# What is for programs that call the library.
+DEVELOPING = "lib/", "include/", "share/man/man3/"
+
+
 def package_of(path):
     """The package that has a file of ./install."""
     if path == "lib/libtensor.so.1":
         return "libtensor1"
     if path.startswith(UNITS):
         return "tensor"
-    return "libtensor-dev" if path.startswith(("lib/", "include/")) else "tensor"
+    return "libtensor-dev" if path.startswith(DEVELOPING) else "tensor"
 
 
 def placed(it):

@@ -1,9 +1,9 @@
-"""The functions of a crate's sources, and the names that the prover has for them.
+"""The functions of a crate's sources, and the prover's names for them.
 
-The prover's name of a function is a path: its module, then the type of its impl or the trait that it
-stands in, then its own name. An impl of a trait has both names in one word, and an impl of a type at
-arguments of its own has these behind the type's name. So the name can't be told from a source alone:
-it is looked for among the names that a library lists.
+The prover's name of a function is a path: its module, then the type of its impl or its trait, then
+its own name. An impl of a trait has both names in one word. An impl of a type at particular arguments
+has the arguments behind the type's name. A source alone does not determine the name, so the name is
+looked up in the list of names in a library.
 """
 
 import collections

@@ -1,5 +1,4 @@
-"""What tools/release packs with: archives and Debian packages that are the same bytes whenever and
-wherever they are made of the same files."""
+"""Archives and Debian packages for tools/release. Equal files make equal bytes, at any time and place."""
 
 import gzip
 import hashlib

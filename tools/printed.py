@@ -1,4 +1,4 @@
-"""What a tool prints into a page of the documents, between marks that name the tool."""
+"""Parts of the documents that a tool prints, between marks that name the tool."""
 
 from usage import fail
 

@@ -1,10 +1,10 @@
-"""Edits of a crate, tried over what is proved below it: those of different functions in one check.
+"""Tries the edits of a crate over the proved crates below it. One check tries edits of many functions.
 
-A function's proof rests on its own body and on the contracts of others, so one check of several
-changed functions judges each, by the goals of that function that aren't proved. An edit that a check
-doesn't judge is tried again in the next round: a second edit of a function, and one whose proof
-waits for another's. What changes no function's body, what the prover has no one name for, and what
-no round has judged, is tried by a check of the whole crate.
+A function's proof uses its own body and the contracts of other functions. So one check of several
+changed functions judges each of them, by the goals of that function that are not proved. An edit that
+a check does not judge is tried again in the next round: a second edit of one function, or an edit of
+a function whose proof waits for another. A check of the whole crate tries the rest: edits outside
+functions, functions without a unique name of the prover, and edits that no round has judged.
 """
 
 import os

@@ -1,5 +1,5 @@
-// Adds two matrices of Eigen by the library, on four threads, into a third one, where they lie; sums it on
-// four threads, each a quarter; and asks for what isn't there: c++ -std=c++20 -pthread
+// Adds two matrices of Eigen by the library, in four parts, into a third one, where they lie; sums it in
+// four parts, each a quarter; and asks for what isn't there: c++ -std=c++20 -pthread
 // examples/cpp/arrays.cpp -Iinclude -I/usr/include/eigen3 out/libtensor.a -o out/arrays
 // (./build/library makes the library). Prints the sum by the library, the same by Eigen, and a fault.
 
@@ -25,25 +25,17 @@ static tensor::Values values(const Matrix &it)
     return {it.data(), static_cast<std::size_t>(it.size())};
 }
 
-// The sum of all values. One thread works out an answer of one value: so four of them have a quarter of
-// the operand each, as an array of its own, and what they answer is added. The expression is read once.
+// The sum of all values. An answer of one value has one part: so the values are summed as four columns, a
+// part each, and the four sums are added. The expression is read once.
 static std::int64_t sum(tensor::Values all)
 {
-    constexpr std::size_t threads = 4, quarter = 250'000;
-    const tensor::Values first[] = {all.first(quarter)};
+    const tensor::Values arrays[] = {all};
     const tensor::Prepared prepared(
-        R"({"version":1,"workers":1,"block":4096,"inputs":{"a":{"dims":[250000]}},"expr":["sum","a",[0]]})",
-        first);
-    std::int64_t sums[threads];
-    {
-        std::vector<std::jthread> others;
-        for (std::size_t i = 0; i < threads; i++)
-            others.emplace_back([&, i] {
-                const tensor::Values part[] = {all.subspan(i * quarter, quarter)};
-                prepared.run(part, std::span(sums).subspan(i, 1));
-            });
-    }
-    return std::reduce(sums, sums + threads);
+        R"({"version":1,"workers":1,"block":4096,"inputs":{"a":{"dims":[250000,4]}},"expr":["sum","a",[0]]})",
+        arrays);
+    std::int64_t sums[4];
+    prepared.run(arrays, sums, 4);
+    return std::reduce(sums, sums + 4);
 }
 
 int main()

@@ -12,6 +12,7 @@ and in `Tensor.values` (numpy's order="F"), whatever order lists and arrays have
 """
 
 import typing
+from builtins import bool as bool
 
 from .expressions import Expr as Expr  # Before the tensors, which it needs and which need it.
 
@@ -24,7 +25,7 @@ from .running import Session as Session, run as run
 from .tensors import Tensor as Tensor, placeholder as placeholder, tensor as tensor
 from .values import GREATEST as GREATEST, LEAST as LEAST, numpy as _numpy
 
-__version__ = "2.1.0"
+__version__ = "3.0.0"
 
 # As numpy names what makes a new axis of an index, and the dtypes that values can be asked for as.
 newaxis = None

@@ -21,7 +21,7 @@ from .rewriting.bindings import in_order, with_others
 from .rules import Dims, product
 from .running import run
 from .tensors import Placeholder, Tensor, an_expr, placeholder, tensor
-from .threads import shares
+from .threads import parts_worth
 from .values import numpy
 
 # Up to so many values an answer is a list, which costs less than memory of its own.
@@ -119,7 +119,7 @@ class Plan:
         def shared() -> int:
             return library.shared(frame, arrays)
 
-        self.places = shares(expr, self.size, settings.workers, shared)
+        self.parts = parts_worth(expr, self.size, settings.workers, shared)
         self.room = ctypes.c_int64 * self.size
         # Where each array lies and how many values it has, one behind another; and where among
         # these numbers the arrays of a call stand.
@@ -231,11 +231,11 @@ class Compiled:
             plan = self.plans[named] = self._planned(library, key, out)
         result = Result(self.expr, out, plan.is_turned)
         # An answer that goes where an input lies is written beside it first.
-        inputs = [] if out is None else [*kept, *plan.kept]
+        inputs = [] if out is None else [it for it in (*kept, *plan.kept) if len(it)]
         memories = [memory_of_out(it) if type(it) is ARRAY else it for it in inputs]
         values = result.place(plan.dims, memories)
-        prepared = library.run_plan, plan.numbers
-        library.fill(prepared, plan.arrays_at(places), plan.many, values, plan.places)
+        prepared = library.pool_run, plan.numbers
+        library.fill(prepared, plan.arrays_at(places), plan.many, values, plan.parts)
         return result.tensor(values, plan.dims, plan.truth)
 
     def _planned(self, library: Library, key: int, out: Any) -> Plan:

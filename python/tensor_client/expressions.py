@@ -3,18 +3,29 @@ in tensors.py; the examples take their names from the package."""
 
 from __future__ import annotations
 
-from typing import Any, Optional, Sequence
+from typing import Any, Callable, Optional, Sequence
 
 from . import rules
 from .methods import NumpyMethods
+from .operators import told
 from .rules import Dims, alike
-from .values import as_bits, flag, is_bool, listed, value_of, whole
+from .values import WRAPPING, as_bits, flag, is_bool, listed, value_of, whole
 
 MANY = 1_000_000_000
-# What gives truth values of two truth values.
-OF_TRUTHS = frozenset("mul cwise_max cwise_min bit_and bit_or bit_xor".split())
-# What is the same of numbers with a sign and without one.
-WRAPPING = frozenset("add sub mul eq ne bit_and bit_or bit_xor __and__ __or__ __xor__".split())
+# What gives truth values, always and of two truth values; these are summed by another operation.
+COMPARING = frozenset("lt le eq ne gt ge and or".split())
+OF_TRUTHS = frozenset("add mul cwise_max cwise_min bit_and bit_or bit_xor".split())
+SUMS = {"add": "or"}
+OfOther = Callable[[Any], "Expr"]
+
+
+def pairwise(operation: str, what: str, *example: str) -> Any:
+    """An operation of the request on each two values as a method, with an example."""
+
+    def method(self: Expr, other: Any) -> Expr:
+        return elementwise(operation, self, other)
+
+    return told(method, operation + "_" * (operation in ("and", "or")), what, *example)
 
 
 class Expr(NumpyMethods):
@@ -125,109 +136,59 @@ class Expr(NumpyMethods):
 
     # Two and three operands, value by value, repeated by numpy's rule where dims differ.
 
-    def add(self, other: Any) -> Expr:
-        """The sums: x + y.
-
-        >>> run(tensor([1, 2]) + [[10], [20]]).nested()
-        [[11, 12], [21, 22]]
-        """
-        return elementwise("add", self, other)
-
-    def sub(self, other: Any) -> Expr:
-        """The differences: x - y.
-
-        >>> run(tensor([1, 2]) - 1).values
-        [0, 1]
-        """
-        return elementwise("sub", self, other)
-
-    def mul(self, other: Any) -> Expr:
-        """The products, value by value: x * y.
-
-        >>> run(tensor([1, 2]) * [3, 4]).values
-        [3, 8]
-        """
-        return elementwise("mul", self, other)
-
-    def cwise_max(self, other: Any) -> Expr:
-        """The greater of each two values, numpy's maximum(x, y).
-
-        >>> run(tensor([1, 5]).cwise_max([3, 4])).values
-        [3, 5]
-        """
-        return elementwise("cwise_max", self, other)
-
-    def cwise_min(self, other: Any) -> Expr:
-        """The lesser of each two values, numpy's minimum(x, y).
-
-        >>> run(tensor([1, 5]).cwise_min(3)).values
-        [1, 3]
-        """
-        return elementwise("cwise_min", self, other)
-
-    def lt(self, other: Any) -> Expr:
-        """1 where x < y, else 0.
-
-        >>> run(tensor([1, 2]) < 2).values
-        [1, 0]
-        """
-        return elementwise("lt", self, other, truth=True)
-
-    def le(self, other: Any) -> Expr:
-        """1 where x <= y, else 0.
-
-        >>> run(tensor([1, 2, 3]) <= 2).values
-        [1, 1, 0]
-        """
-        return elementwise("le", self, other, truth=True)
-
-    def eq(self, other: Any) -> Expr:
-        """1 where x == y, else 0.
-
-        >>> run(tensor([1, 2]) == [1, 3]).values
-        [1, 0]
-        """
-        return elementwise("eq", self, other, truth=True)
-
-    def ne(self, other: Any) -> Expr:
-        """1 where x != y, else 0.
-
-        >>> run(tensor([1, 2]) != [1, 3]).values
-        [0, 1]
-        """
-        return elementwise("ne", self, other, truth=True)
-
-    def gt(self, other: Any) -> Expr:
-        """1 where x > y, else 0.
-
-        >>> run(tensor([1, 2]) > 1).values
-        [0, 1]
-        """
-        return elementwise("gt", self, other, truth=True)
-
-    def ge(self, other: Any) -> Expr:
-        """1 where x >= y, else 0.
-
-        >>> run(tensor([1, 2, 3]) >= 2).values
-        [0, 1, 1]
-        """
-        return elementwise("ge", self, other, truth=True)
-
-    def and_(self, other: Any) -> Expr:
-        """1 where neither value is 0, else 0: numpy's logical_and.
-
-        >>> run(tensor([0, 5, 5]).and_([5, 0, 7])).values
-        [0, 0, 1]
-        """
-        return elementwise("and", self, other, truth=True)
-
-    def or_(self, other: Any) -> Expr:
-        """1 where one value is not 0, else 0: numpy's logical_or.
-
-        >>> run(tensor([0, 5, 0]).or_([0, 0, 7])).values
-        [0, 1, 1]
-        """
-        return elementwise("or", self, other, truth=True)
+    add: OfOther = pairwise("add", "The sums: x + y.", "tensor([1, 2]) + 10", "[11, 12]")
+    sub: OfOther = pairwise("sub", "The differences: x - y.", "tensor([1, 2]) - 1", "[0, 1]")
+    mul: OfOther = pairwise(
+        "mul", "The products, value by value: x * y.", "tensor([1, 2]) * [3, 4]", "[3, 8]"
+    )
+    cwise_max: OfOther = pairwise(
+        "cwise_max", "The greater of each two values, numpy's maximum(x, y).",
+        "tensor([1, 5]).cwise_max([3, 4])", "[3, 5]",
+    )
+    cwise_min: OfOther = pairwise(
+        "cwise_min", "The lesser of each two values, numpy's minimum(x, y).",
+        "tensor([1, 5]).cwise_min(3)", "[1, 3]",
+    )
+    lt: OfOther = pairwise("lt", "1 where x < y, else 0.", "tensor([1, 2]) < 2", "[1, 0]")
+    le: OfOther = pairwise("le", "1 where x <= y, else 0.", "tensor([1, 2, 3]) <= 2", "[1, 1, 0]")
+    eq: OfOther = pairwise("eq", "1 where x == y, else 0.", "tensor([1, 2]) == [1, 3]", "[1, 0]")
+    ne: OfOther = pairwise("ne", "1 where x != y, else 0.", "tensor([1, 2]) != [1, 3]", "[0, 1]")
+    gt: OfOther = pairwise("gt", "1 where x > y, else 0.", "tensor([1, 2]) > 1", "[0, 1]")
+    ge: OfOther = pairwise("ge", "1 where x >= y, else 0.", "tensor([1, 2, 3]) >= 2", "[0, 1, 1]")
+    and_: OfOther = pairwise(
+        "and", "1 where neither value is 0, else 0: numpy's logical_and.",
+        "tensor([0, 5, 5]).and_([5, 0, 7])", "[0, 0, 1]",
+    )
+    or_: OfOther = pairwise(
+        "or", "1 where one value is not 0, else 0: numpy's logical_or.",
+        "tensor([0, 5, 0]).or_([0, 0, 7])", "[0, 1, 1]",
+    )
+    floor_divide: OfOther = pairwise(
+        "floor_divide", "The quotients, rounded down: x // y. By 0 they are 0, as numpy's.",
+        "tensor([7, -7, 7]) // [2, 2, 0]", "[3, -4, 0]",
+    )
+    remainder: OfOther = pairwise(
+        "remainder", "What those leave, of the sign of y: x % y. By 0 it is 0, as numpy's.",
+        "tensor([7, -7, 7]) % [2, 2, 0]", "[1, 1, 0]",
+    )
+    bit_and: OfOther = pairwise(
+        "bit_and", "The bits that both have: x & y.", "tensor([12, -1]) & 10", "[8, 10]"
+    )
+    bit_or: OfOther = pairwise(
+        "bit_or", "The bits that one has: x | y.", "tensor([12, -1]) | 10", "[14, -1]"
+    )
+    bit_xor: OfOther = pairwise(
+        "bit_xor", "The bits that one alone has: x ^ y.", "tensor([12, -1]) ^ 10", "[6, -11]"
+    )
+    shift_left: OfOther = pairwise(
+        "shift_left", "The bits moved up: x << y. 0 by 64 places and more, and below 0, as numpy's.",
+        "tensor([1, 1, 1]).shift_left([3, 63, 64])", "[8, -9223372036854775808, 0]",
+    )
+    shift_right: OfOther = pairwise(
+        "shift_right",
+        "The bits moved down: x >> y. By 64 places and more, and below 0, the sign's, as numpy's.",
+        "tensor([9, -9, -9]) >> [1, 1, 64]", "[4, -5, -1]",
+    )
 
     def select(self, x: Any, y: Any) -> Expr:
         """x where this isn't 0, else y: where(this, x, y).
@@ -369,7 +330,8 @@ class Expr(NumpyMethods):
         ours = rules.axes_of([pair[0] for pair in found], len(self.dims))
         theirs = rules.axes_of([pair[1] for pair in found], len(right.dims))
         dims = rules.contracted(self.dims, right.dims, ours, theirs)
-        return Expr("contract", [self, right], [[[*pair] for pair in zip(ours, theirs)]], dims)
+        pairs = [[*pair] for pair in zip(ours, theirs)]
+        return of_truths(Expr("contract", [self, right], [pairs], dims))
 
     def convolve(self, kernel: Any, *axes: Any) -> Expr:
         """The sums of products of a kernel and what lies under it, where its axes lie along these
@@ -382,16 +344,28 @@ class Expr(NumpyMethods):
         if self.dims is None or under.dims is None:
             return Expr("convolve", [self, under], [along])
         along = rules.axes_of(along, len(self.dims))
-        return Expr("convolve", [self, under], [along], rules.slid(self.dims, under.dims, along))
+        dims = rules.slid(self.dims, under.dims, along)
+        return of_truths(Expr("convolve", [self, under], [along], dims))
 
 
-def elementwise(operation: str, left: Expr, right: Any, truth: bool = False) -> Expr:
+def of_truths(products: Expr) -> Expr:
+    """Sums of products, which are truth values where all operands are, as numpy has it.
+
+    >>> run(tensor([True, True]).contract([True, True], [(0, 0)])).item()
+    True
+    """
+    return products.ne(0) if all(it.truth for it in products.operands) else products
+
+
+def elementwise(operation: str, left: Expr, right: Any) -> Expr:
     """An operation value by value, over the dims that both fit."""
     if not isinstance(right, Expr):
         right = beside(as_bits(right) if operation in WRAPPING else right, left)
     other: Expr = right
     operands = [left, other] if left.dims == other.dims else alike(left, other)
-    truth = truth or (operation in OF_TRUTHS and left.truth and other.truth)
+    truth = operation in COMPARING
+    if left.truth and other.truth and operation in OF_TRUTHS:
+        operation, truth = SUMS.get(operation, operation), True
     return Expr(operation, operands, dims=operands[0].dims, truth=truth)
 
 

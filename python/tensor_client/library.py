@@ -1,5 +1,5 @@
 """Has expressions answered in this process, by the library: on the thread that calls, or in parts,
-on several threads. Arrays are handed over where they lie, and answers written where they are
+by the threads of a pool that the library keeps. Arrays are handed over where they lie, and answers written where they are
 wanted."""
 
 from __future__ import annotations
@@ -12,23 +12,26 @@ from . import finding
 from .expressions import Expr
 from .faults import Fault, ProgramFailed, fault_made
 from .length import FIRST_NODES, most_nodes
-from .memory import LARGE, VALUE, Bytes, as_memory, joined, memory_for, place_of
+from .memory import LARGE, VALUE, Bytes, as_memory, joined, memory_for, memory_of, place_of
 from .requests import DEEPEST, Framed, Settings, framed
 from .results import Result
 from .rewriting.bindings import bindings_of, with_others
 from .rewriting.mirrored import REDUCTIONS
 from .rules import MOST_ELEMENTS, Dims, product
 from .tensors import Tensor
-from .threads import FEWEST, cut, each, shares
+from .threads import FEWEST, parts_worth
 
 # As include/tensor.h has them.
-NO_ROOM, DIMS_ROOM, NAME_ROOM = -100, 9, 16
+NO_ROOM, DIMS_ROOM, NAME_ROOM, MOST_PARTS = -100, 9, 16, 256
 # How much room there is for a plan: enough for some hundred nodes, and else more.
 PLAN_ROOMS = 1 << 14, 1 << 18, 1 << 24
 POINTER, SIZE, NUMBER = ctypes.c_void_p, ctypes.c_size_t, ctypes.c_uint64
 DIMS, NAME = NUMBER * DIMS_ROOM, ctypes.c_uint8 * NAME_ROOM
-# A function that is handed arrays, and what it is handed before these: a header, or a plan.
+# A function that is handed a pool and arrays, and what stands between these: a header, or a plan.
 Asked = Tuple[Any, Any]
+# The pools of this process, by the path of their library: a child that was forked opens its own.
+POOLS: Dict[str, Optional[int]] = {}
+os.register_at_fork(after_in_child=POOLS.clear)
 
 
 def arrays_of(parts: List[Bytes]) -> Any:
@@ -45,31 +48,32 @@ class Library:
         try:
             opened = ctypes.CDLL(path)
             self.evaluate: Any = opened.tensor_evaluate
-            self.evaluate_arrays: Any = opened.tensor_evaluate_arrays
             self.shared_by_parts: Any = opened.tensor_shared
             self.dims_of_arrays: Any = opened.tensor_dims_of_arrays
             self.prepare: Any = opened.tensor_prepare
             self.run_plan: Any = opened.tensor_run
             self.fault_name: Any = opened.tensor_fault_name
+            self.pool_open: Any = opened.tensor_pool_open
+            self.pool_run: Any = opened.tensor_pool_run
+            self.pool_evaluate: Any = opened.tensor_pool_evaluate_arrays
+            self.pool_close: Any = opened.tensor_pool_close
         except (OSError, AttributeError) as fault:
             raise ProgramFailed(f"no library: {by}{path}: {fault}") from fault
-        self.evaluate.argtypes = [POINTER, SIZE] * 4
-        self.evaluate_arrays.argtypes = [POINTER, SIZE, POINTER, SIZE, NUMBER, POINTER, SIZE]
-        self.shared_by_parts.argtypes = [POINTER, SIZE] * 2
-        self.prepare.argtypes = [POINTER, SIZE, NUMBER, POINTER, SIZE]
-        self.dims_of_arrays.argtypes = [POINTER, SIZE] * 3
-        self.run_plan.argtypes = self.evaluate_arrays.argtypes
-        self.fault_name.argtypes = [ctypes.c_uint32, POINTER, SIZE]
-        for it in (
-            self.evaluate,
-            self.evaluate_arrays,
-            self.shared_by_parts,
-            self.dims_of_arrays,
-            self.prepare,
-            self.run_plan,
-            self.fault_name,
+        over = [POINTER, SIZE, POINTER, SIZE, NUMBER, POINTER, SIZE]
+        for function, arguments in (
+            (self.evaluate, [POINTER, SIZE] * 4),
+            (self.shared_by_parts, [POINTER, SIZE] * 2),
+            (self.dims_of_arrays, [POINTER, SIZE] * 3),
+            (self.prepare, [POINTER, SIZE, NUMBER, POINTER, SIZE]),
+            (self.run_plan, over),
+            (self.fault_name, [ctypes.c_uint32, POINTER, SIZE]),
+            (self.pool_run, [POINTER, *over, SIZE]),
+            (self.pool_evaluate, [POINTER, *over, SIZE]),
+            (self.pool_open, [SIZE]),
+            (self.pool_close, [POINTER]),
         ):
-            it.restype = ctypes.c_int64
+            function.argtypes, function.restype = arguments, ctypes.c_int64
+        self.pool_open.restype, self.pool_close.restype = POINTER, None
 
     def run(self, expr: Expr, settings: Settings, out: Any = None) -> Tensor:
         """The tensor of an expression's values, or its fault."""
@@ -107,32 +111,26 @@ class Library:
         def shared() -> int:
             return self.shared(asked, arrays)
 
-        places = shares(expr, len(values), settings.workers, shared)
-        self.fill((self.evaluate_arrays, asked.header), arrays, len(parts), values, places)
+        count = parts_worth(expr, len(values), settings.workers, shared)
+        self.fill((self.pool_evaluate, asked.header), arrays, len(parts), values, count)
         return result.tensor(values, dims, expr.truth)
 
     def reduced(self, expr: Expr, memory: memoryview, settings: Settings) -> Tensor:
-        """The tensor of a reduction of this memory to one value: each thread reduces a share of it,
-        and what they have is reduced again."""
-        places, alone = cut(len(memory), settings.workers), settings._replace(workers=1)
-        room = memory_for(len(places) + 1)
-        # Shares are of two lengths at most.
-        headers: Dict[int, bytes] = {}
-        for count in {len(places), *map(len, places)}:
-            part = Tensor(memory[:count], (count,))
-            headers[count] = framed(Expr(expr.operation, [part], [[0]], ()), alone).header
+        """The tensor of a reduction of this memory to one value: columns of it are reduced, one for
+        each worker, and then what they have and the values behind them."""
+        count, alone = min(settings.workers, MOST_PARTS), settings._replace(workers=1)
+        length = len(memory) // count
+        room = memory_of(bytes(VALUE * count) + memory[length * count :].tobytes())
+        found = memory_for(1)
 
-        def reduce(values: memoryview, at: int) -> None:
-            asked = self.evaluate_arrays, headers[len(values)]
-            self.fill(asked, arrays_of([values]), 1, room[at : at + 1], [range(1)])
+        def reduce(values: memoryview, dims: Dims, out: memoryview) -> None:
+            columns = Expr(expr.operation, [Tensor(values, dims)], [[0]], dims[1:])
+            asked = self.pool_evaluate, framed(columns, alone).header
+            self.fill(asked, arrays_of([values]), 1, out, len(out))
 
-        def reduce_share(at: range) -> None:
-            share = places[at.start]
-            reduce(memory[share.start : share.stop], at.start)
-
-        each(reduce_share, cut(len(places), len(places)))
-        reduce(room[:-1], len(places))
-        return Tensor(room[-1:].tolist(), (), expr.truth)
+        reduce(memory[: length * count], (length, count), room[:count])
+        reduce(room, (len(room),), found)
+        return Tensor(found.tolist(), (), expr.truth)
 
     def with_parts(self, expr: Expr, settings: Settings) -> Expr:
         """An expression with the tensors of those parts that a request would bind, where some have
@@ -193,22 +191,23 @@ class Library:
             raise self.failed(length)
         return (NUMBER * length).from_buffer_copy(room)
 
-    def fill(
-        self, asked: Asked, arrays: Any, many: int, out: memoryview, places: List[range]
-    ) -> None:
-        """Writes the values that are asked for of so many arrays, each of these shares of the
-        places on a thread."""
+    def fill(self, asked: Asked, arrays: Any, many: int, out: memoryview, parts: int) -> None:
+        """Writes the values that are asked for of so many arrays, in this number of parts."""
         function, text = asked
+        pool, place = self.pool() if parts > 1 else None, place_of(out)
+        count = function(pool, text, len(text), arrays, many, 0, place, len(out), parts)
+        if count != len(out):
+            raise self.failed(count)
 
-        def write(share: range) -> None:
-            part = out[share.start : share.stop]
-            count = function(
-                text, len(text), arrays, many, share.start, place_of(part), len(part)
-            )
-            if count != len(part):
-                raise self.failed(count)
-
-        each(write, places)
+    def pool(self) -> Optional[int]:
+        """The threads of the library, which are started when they are first needed, and stay."""
+        found = POOLS.get(self.path)
+        if found is None:
+            opened = self.pool_open(os.cpu_count() or 1)
+            found = POOLS.setdefault(self.path, opened)
+            if found != opened:
+                self.pool_close(opened)
+        return found
 
     def failed(self, count: int) -> Exception:
         """What is raised where a function returns something else than how many values it wrote."""

@@ -128,6 +128,5 @@ def place_of(memory: Bytes) -> int:
 
 def overlap(one: memoryview, other: Bytes) -> bool:
     """Whether two memories have a place in common."""
-    views = [memoryview(it) for it in (one, other)]
-    places = [range(place_of(it), place_of(it) + it.nbytes) for it in views if it.nbytes]
-    return len(places) == 2 and max(it.start for it in places) < min(it.stop for it in places)
+    ours, theirs, size = place_of(one), place_of(other), memoryview(other).nbytes
+    return ours < theirs + size and theirs < ours + one.nbytes

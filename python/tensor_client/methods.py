@@ -90,7 +90,7 @@ class NumpyMethods(NumpyWays):
         any = reducing("any", "Whether a value isn't 0", "[1, 1]")
 
     def _combined(
-        self, operation: str, axes: Sequence[Any], axis: Axis, keepdims: bool, dtype: Any = None,
+        self, operation: str, axes: Sequence[Any], axis: Axis, keepdims: bool, /, dtype: Any = None,
         out: None = None, initial: Any = None, where: Any = None, **unknown: Any,
     ) -> Expr:
         for it in unknown:
@@ -174,9 +174,9 @@ class NumpyMethods(NumpyWays):
         written_nowhere(out)
         return functions.dot(self, other)
 
-    def pad(self, widths: Any, mode: str = "constant", constant_values: Any = 0) -> Expr:
+    def pad(self, widths: Any, mode: str = "constant", **more: Any) -> Expr:
         """As the function `pad`."""
-        return functions.pad(self, widths, mode, constant_values)
+        return functions.pad(self, widths, mode, **more)
 
     def astype(self, dtype: Any, **more: Any) -> Any:
         """As the function `astype`: of other dtypes than int64 and bool it is an array of numpy."""

@@ -2,13 +2,58 @@
 
 from __future__ import annotations
 
-from typing import TYPE_CHECKING, Any, Callable, Optional, Sequence, Tuple
+from typing import TYPE_CHECKING, Any, Callable, Optional, Protocol, Sequence, Tuple, overload
 
 from .rules import Dims
-from .values import as_bits, is_bool, is_several, whole
+from .values import WRAPPING, NumpysOwn, as_bits, is_bool, is_several, whole
 
 if TYPE_CHECKING:
     from .expressions import Expr
+
+
+def told(function: Callable[..., Any], name: str, what: str, example: str, wanted: str) -> Any:
+    """A function with a name, and a docstring with an example."""
+    function.__name__ = function.__qualname__ = name
+    function.__doc__ = f"{what}\n\n    >>> run({example}).values\n    {wanted}\n    "
+    return function
+
+
+class Pairwise(Protocol):
+    """An operator with what stands behind it. With fractions it is numpy's, and gives its array."""
+
+    @overload
+    def __call__(self, other: int) -> Expr: ...
+
+    @overload
+    def __call__(self, other: float) -> Any: ...
+
+    @overload
+    def __call__(self, other: object) -> Expr: ...
+
+
+def between(method: str, name: str) -> Any:
+    """An operator by a method of expressions, or by numpy's function of this name."""
+
+    def operator(self: Any, other: Any) -> Any:
+        try:
+            return getattr(self, method)(other)
+        except NumpysOwn:
+            return self._by_numpy(name, self, other)
+
+    return operator
+
+
+def behind(method: str, name: str) -> Any:
+    """The same where the expression stands behind the other."""
+
+    def operator(self: Any, other: Any) -> Any:
+        try:
+            first = as_bits(other) if method in WRAPPING else other
+            return getattr(self._beside(first), method)(self)
+        except NumpysOwn:
+            return self._by_numpy(name, other, self)
+
+    return operator
 
 
 class Operators:
@@ -22,21 +67,38 @@ class Operators:
         neg: Callable[[], Expr]
         abs: Callable[[], Expr]
         not_: Callable[[], Expr]
-        add: Callable[[Any], Expr]
-        sub: Callable[[Any], Expr]
         mul: Callable[[Any], Expr]
-        lt: Callable[[Any], Expr]
-        le: Callable[[Any], Expr]
-        eq: Callable[[Any], Expr]
         ne: Callable[[Any], Expr]
-        gt: Callable[[Any], Expr]
-        ge: Callable[[Any], Expr]
         and_: Callable[[Any], Expr]
         or_: Callable[[Any], Expr]
+        bit_and: Callable[[Any], Expr]
+        bit_or: Callable[[Any], Expr]
+        bit_xor: Callable[[Any], Expr]
+        shift_left: Callable[[Any], Expr]
         cwise_max: Callable[[Any], Expr]
         shuffle: Callable[..., Expr]
         in_dims: Callable[[Sequence[int]], Expr]
         reduced: Callable[[str, Sequence[int]], Expr]
+
+    __add__: Pairwise = between("add", "add")
+    __sub__: Pairwise = between("sub", "subtract")
+    __mul__: Pairwise = between("mul", "multiply")
+    __floordiv__: Pairwise = between("floor_divide", "floor_divide")
+    __mod__: Pairwise = between("remainder", "remainder")
+    __radd__: Pairwise = behind("add", "add")
+    __rsub__: Pairwise = behind("sub", "subtract")
+    __rmul__: Pairwise = behind("mul", "multiply")
+    __rfloordiv__: Pairwise = behind("floor_divide", "floor_divide")
+    __rmod__: Pairwise = behind("remainder", "remainder")
+    __rshift__: Pairwise = between("shift_right", "right_shift")
+    __rlshift__: Pairwise = behind("shift_left", "left_shift")
+    __rrshift__: Pairwise = behind("shift_right", "right_shift")
+    __lt__: Pairwise = between("lt", "less")
+    __le__: Pairwise = between("le", "less_equal")
+    __gt__: Pairwise = between("gt", "greater")
+    __ge__: Pairwise = between("ge", "greater_equal")
+    __eq__: Pairwise = between("eq", "equal")  # type: ignore[assignment]
+    __ne__: Pairwise = between("ne", "not_equal")  # type: ignore[assignment]
 
     def __neg__(self) -> Expr:
         return self.neg()
@@ -46,42 +108,6 @@ class Operators:
 
     def __abs__(self) -> Expr:
         return self.abs()
-
-    def __add__(self, other: Any) -> Expr:
-        return self.add(other)
-
-    def __sub__(self, other: Any) -> Expr:
-        return self.sub(other)
-
-    def __mul__(self, other: Any) -> Expr:
-        return self.mul(other)
-
-    def __radd__(self, other: Any) -> Expr:
-        return self._beside(as_bits(other)).add(self)
-
-    def __rsub__(self, other: Any) -> Expr:
-        return self._beside(as_bits(other)).sub(self)
-
-    def __rmul__(self, other: Any) -> Expr:
-        return self._beside(as_bits(other)).mul(self)
-
-    def __lt__(self, other: Any) -> Expr:
-        return self.lt(other)
-
-    def __le__(self, other: Any) -> Expr:
-        return self.le(other)
-
-    def __gt__(self, other: Any) -> Expr:
-        return self.gt(other)
-
-    def __ge__(self, other: Any) -> Expr:
-        return self.ge(other)
-
-    def __eq__(self, other: Any) -> Expr:  # type: ignore[override]
-        return self.eq(other)
-
-    def __ne__(self, other: Any) -> Expr:  # type: ignore[override]
-        return self.ne(other)
 
     def __matmul__(self, other: Any) -> Expr:
         from .functions import matmul
@@ -94,15 +120,15 @@ class Operators:
         return matmul(other, self)
 
     def __pow__(self, exponent: Any, modulo: None = None) -> Any:
-        """Powers by a whole number from 0 up, by squares; by several numbers they are numpy's, and
-        both are run.
+        """Powers by a whole number from 0 up, by squares; by several numbers, and by a fraction, they
+        are numpy's, and both are run.
 
         >>> run(tensor([2, 3]) ** 5).values
         [32, 243]
         """
         if modulo is not None:
             raise TypeError("the runtime has no powers of a modulus")
-        if is_several(exponent):
+        if is_several(exponent) or isinstance(exponent, float):
             return self._by_numpy("power", self, exponent)
         number = whole(exponent)
         if number < 0:
@@ -143,15 +169,6 @@ class Operators:
         places = whole(count)
         return self.mul((2**places + 2**63) % 2**64 - 2**63 if 0 <= places < 64 else 0)
 
-    def __rshift__(self, count: Any) -> Expr:
-        return self.shift_right(count)
-
-    def __rlshift__(self, other: Any) -> Expr:
-        return self._beside(other).shift_left(self)
-
-    def __rrshift__(self, other: Any) -> Expr:
-        return self._beside(other).shift_right(self)
-
     def _are_truths(self, other: Any) -> bool:
         """Whether both are known to be 0 and 1, where bit by bit and as a whole are the same."""
         from .tensors import an_expr
@@ -159,25 +176,11 @@ class Operators:
         theirs = is_bool(other) or (not isinstance(other, int) and an_expr(as_bits(other)).truth)
         return self.truth and theirs
 
-    # Division, rounded down.
+    def __divmod__(self, other: Any) -> Tuple[Any, Any]:
+        return self // other, self % other
 
-    def __floordiv__(self, other: Any) -> Expr:
-        return self.floor_divide(other)
-
-    def __mod__(self, other: Any) -> Expr:
-        return self.remainder(other)
-
-    def __divmod__(self, other: Any) -> Tuple[Expr, Expr]:
-        return self.floor_divide(other), self.remainder(other)
-
-    def __rfloordiv__(self, other: Any) -> Expr:
-        return self._beside(other).floor_divide(self)
-
-    def __rmod__(self, other: Any) -> Expr:
-        return self._beside(other).remainder(self)
-
-    def __rdivmod__(self, other: Any) -> Tuple[Expr, Expr]:
-        return self._beside(other).__divmod__(self)
+    def __rdivmod__(self, other: Any) -> Tuple[Any, Any]:
+        return other // self, other % self
 
     # What is a fraction, or takes powers by values, is numpy's, of what is run for it.
 
@@ -188,7 +191,7 @@ class Operators:
         return self._by_numpy("true_divide", other, self)
 
     def __rpow__(self, other: Any) -> Any:
-        return self._by_numpy("power", self._beside(other), self)
+        return self._by_numpy("power", other, self)
 
     def _by_numpy(self, name: str, *operands: Any) -> Any:
         from .functions.delegated import by_numpy
@@ -196,63 +199,6 @@ class Operators:
         return by_numpy(name, *operands)
 
     # The operations behind some of these, which frames and the library alone have.
-
-    def floor_divide(self, other: Any) -> Expr:
-        """The quotients, rounded down: x // y. By 0 they are 0, as numpy's.
-
-        >>> run(tensor([7, -7, 7]) // [2, 2, 0]).values
-        [3, -4, 0]
-        """
-        return self._pairwise("floor_divide", other)
-
-    def remainder(self, other: Any) -> Expr:
-        """What those leave, of the sign of y: x % y. By 0 it is 0, as numpy's.
-
-        >>> run(tensor([7, -7, 7]) % [2, 2, 0]).values
-        [1, 1, 0]
-        """
-        return self._pairwise("remainder", other)
-
-    def bit_and(self, other: Any) -> Expr:
-        """The bits that both have: x & y.
-
-        >>> run(tensor([12, -1]) & 10).values
-        [8, 10]
-        """
-        return self._pairwise("bit_and", other)
-
-    def bit_or(self, other: Any) -> Expr:
-        """The bits that one has: x | y.
-
-        >>> run(tensor([12, -1]) | 10).values
-        [14, -1]
-        """
-        return self._pairwise("bit_or", other)
-
-    def bit_xor(self, other: Any) -> Expr:
-        """The bits that one alone has: x ^ y.
-
-        >>> run(tensor([12, -1]) ^ 10).values
-        [6, -11]
-        """
-        return self._pairwise("bit_xor", other)
-
-    def shift_left(self, other: Any) -> Expr:
-        """The bits moved up by so many places: x << y. 0 by 64 and more, and below 0, as numpy's.
-
-        >>> run(tensor([1, 1, 1]).shift_left([3, 63, 64])).values
-        [8, -9223372036854775808, 0]
-        """
-        return self._pairwise("shift_left", other)
-
-    def shift_right(self, other: Any) -> Expr:
-        """The bits moved down, the sign's beside them: x >> y. Of the sign alone by 64 and more, and
-        below 0, as numpy's.
-
-        >>> run(tensor([9, -9, -9]) >> [1, 1, 64]).values
-        [4, -5, -1]
-        """
-        return self._pairwise("shift_right", other)
 
     def bit_not(self) -> Expr:
         """Each bit turned: ~x, which is -x - 1.
@@ -263,11 +209,6 @@ class Operators:
         from .expressions import Expr
 
         return Expr("bit_not", [self], dims=self.dims)  # type: ignore[list-item]
-
-    def _pairwise(self, operation: str, other: Any) -> Expr:
-        from .expressions import elementwise
-
-        return elementwise(operation, self, other)  # type: ignore[arg-type]
 
     def _beside(self, other: Any) -> Expr:
         from .tensors import beside

@@ -59,8 +59,7 @@ class Result:
         """Memory for an answer of these dims, which overlaps no input: the array's own, if it can
         be."""
         self.check(dims)
-        own = self.own(inputs)
-        return memory_for(product(dims)) if own is None else own
+        return self.own(inputs) or memory_for(product(dims))
 
     def place_of_frame(self, inputs: Sequence[Held]) -> Optional[Place]:
         """The array's own memory, for the values of a frame of the array's dims."""
@@ -84,8 +83,7 @@ class Result:
         dims, truth = dims[::-1] if self.turned else dims, truth and self.out is None
         found = Tensor(values, dims, truth, turned=self.turned)
         if self.out is not None:
-            own = memory_of_out(self.out)
-            if isinstance(values, list) or not overlap(own, values):
+            if isinstance(values, list) or not overlap(memory_of_out(self.out), values):
                 self.out[...] = found.array()
         return found
 
@@ -132,6 +130,5 @@ def checked_out(out: Any) -> Any:
 
 def memory_of_out(out: Any) -> memoryview:
     """The memory of an array without gaps."""
-    flat = out.reshape(-1, order="F" if out.flags.f_contiguous else "C")
-    memory: memoryview = flat.data
+    memory: memoryview = out.reshape(-1, order="F" if out.flags.f_contiguous else "C").data
     return memory

@@ -123,23 +123,25 @@ class Tensor(Expr):
     tolist = nested
 
     def __iter__(self) -> Iterator[Any]:
-        """The rows: of a list of numbers these, else tensors."""
+        """The rows: of a list of numbers these, as numpy's where it is there, else tensors."""
         if not self.dims:
             raise TypeError("a tensor of no axes isn't gone over: x.item() is its value")
         if len(self.dims) == 1:
-            return iter(self.nested())
+            return iter(self.nested() if numpy is None else self.array())
         rest, step = self.dims[1:], self.dims[0]
         return (Tensor(self.values[it::step], rest, self.truth) for it in range(step))
 
     def __contains__(self, value: Any) -> bool:
         return value in self.values
 
-    def item(self) -> int:
-        """The value of a tensor that has one.
+    def item(self, *index: Any) -> int:
+        """The value of a tensor that has one, or the one at an index list, or at an offset of all.
 
-        >>> run(tensor([1, 2]).sum()).item(), tensor(True).item()
-        (3, True)
+        >>> run(tensor([1, 2]).sum()).item(), tensor(True).item(), tensor([[1, 2]]).item(0, 1)
+        (3, True, 2)
         """
+        if index:
+            return (self if len(index) > 1 else self.ravel())[index].item()
         if len(self.own) != 1:
             raise ValueError(f"{len(self.own)} values and not one")
         return self.own[0] != 0 if self.truth else self.own[0]

@@ -4,6 +4,7 @@ from __future__ import annotations
 
 import operator
 from array import array as packed
+from numbers import Number
 from typing import Any, Callable, Iterable, List, Sequence, Tuple, TypeVar
 
 try:
@@ -12,11 +13,17 @@ except ImportError:
     numpy = None  # type: ignore[assignment]
 
 LEAST, GREATEST = -(2**63), 2**63 - 1
+# What is the same of numbers with a sign and without one.
+WRAPPING = frozenset("add sub mul eq ne bit_and bit_or bit_xor __and__ __or__ __xor__".split())
 LISTS = (list, tuple, range, packed)
 # What stands in lists as it is: values, and lists.
 PLAIN = {int, bool, list, tuple}
 
 Kind = TypeVar("Kind")
+
+
+class NumpysOwn(TypeError, ValueError):
+    """What tensors don't have and numpy's arrays do, as fractions: its own functions take it."""
 
 
 def is_bool(value: Any) -> bool:
@@ -41,7 +48,8 @@ def whole(value: Any) -> int:
     try:
         number = operator.index(value)
     except TypeError:
-        raise TypeError(f"no whole number: {value!r:.60}") from None
+        kind = NumpysOwn if isinstance(value, Number) else TypeError
+        raise kind(f"no whole number: {value!r:.60}") from None
     if not LEAST <= number <= GREATEST:
         raise OverflowError("a whole number past the range of i64, -2**63 to 2**63 - 1")
     return number
@@ -117,9 +125,10 @@ def checked_array(array: Any) -> Any:
     if kind == "O":
         raise TypeError("an array of objects: pass a list of whole numbers, or .astype(int)")
     if kind == "f":
-        raise TypeError(f"an array of {array.dtype}: round it, and then .astype(numpy.int64)")
+        raise NumpysOwn(f"an array of {array.dtype}: round it, and then .astype(numpy.int64)")
     if kind not in "biu":
-        raise TypeError(f"an array of {array.dtype} holds no whole numbers")
+        refused = NumpysOwn if kind == "c" else TypeError
+        raise refused(f"an array of {array.dtype} holds no whole numbers")
     if kind == "u" and array.size:
         whole(array.max())
     return array

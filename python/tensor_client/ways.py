@@ -3,6 +3,7 @@ an index names."""
 
 from __future__ import annotations
 
+import sys
 from typing import TYPE_CHECKING, Any, Callable, Iterator, List, NoReturn, Tuple
 
 from . import rules
@@ -34,6 +35,12 @@ class NumpyWays(Operators):
             from .functions.delegated import method_of
 
             return method_of(self, name)
+
+    # Where the values lie, and whose functions take them, by the array API's names.
+    device = "cpu"
+
+    def __array_namespace__(self, api_version: Any = None) -> Any:
+        return sys.modules[__package__ or ""]
 
     # What numpy asks, with an expression among what its functions are given.
 
@@ -89,6 +96,17 @@ class NumpyWays(Operators):
         turned: Expr = found.shuffle(list(range(self.ndim))[::-1]) if self.ndim > 1 else found
         return turned
 
+    @property
+    def mT(self) -> Expr:
+        """The last two axes in each other's place.
+
+        >>> run(tensor([[1, 2, 3], [4, 5, 6]]).mT).nested()
+        [[1, 4], [2, 5], [3, 6]]
+        """
+        from .functions import matrix_transpose
+
+        return matrix_transpose(self)
+
     def transpose(self, *axes: Any) -> Expr:
         """The axes in this order, or from the last to the first.
 
@@ -128,15 +146,15 @@ class NumpyWays(Operators):
     def __format__(self, form: str) -> str:
         return format(self.item(), form) if form else str(self)
 
-    def item(self) -> int:
-        """The value of an expression that has one; it is run for it.
+    def item(self, *index: Any) -> int:
+        """The value of an expression that has one, or the one at an index; it is run for it.
 
         >>> tensor([1, 2]).sum().item(), int(tensor([1, 2]).max())
         (3, 2)
         """
-        if self.size != 1:
+        if self.size != 1 and not index:
             raise ValueError(f"{self.size} values and not one")
-        found: int = self._answered().item()
+        found: int = self._answered().item(*index)
         return found
 
     def tolist(self) -> Any:

@@ -7,6 +7,7 @@ wheel, the client's sources and `pip install -e` go into a fresh venv. Nothing i
 taken away. What is handed out is added here with a test that installs it.
 """
 
+import functools
 import glob
 import os
 import re
@@ -108,6 +109,39 @@ def try_options(root, folder):
         assert noted.count(b"\n") == 1, f"{name} notes one request: {noted}"
 
 
+# Programs linked to the library and to the archive, as find_package tells of them; and a version that isn't.
+PROJECT = """
+cmake_minimum_required(VERSION 3.13)
+project(add C)
+find_package(tensor VERSION REQUIRED)
+foreach(it tensor static)
+  add_executable(${it} SOURCE)
+  target_link_libraries(${it} tensor::${it})
+endforeach()
+find_package(tensor NEXT QUIET)
+if(tensor_FOUND)
+  message(FATAL_ERROR "another version than that asked for")
+endif()
+"""
+
+
+def try_cmake(folder, config):
+    """C programs that CMake makes by what find_package finds there answer."""
+    if not shutil.which("cmake") or not shutil.which("make"):
+        pytest.skip("no cmake (Debian's cmake make)")
+    source = os.path.join(TOP, "examples", "c", "add.c")
+    with open(os.path.join(TOP, "VERSION"), encoding="ascii") as file:
+        first, second, _ = map(int, file.read().split("."))
+    words = {"SOURCE": source, "NEXT": str(first + 1), "tensor VERSION": f"tensor {first}.{second}"}
+    project = functools.reduce(lambda text, it: text.replace(*it), words.items(), PROJECT)
+    (folder / "CMakeLists.txt").write_text(project, encoding="utf-8")
+    build, env = str(folder / "build"), dict(os.environ)
+    succeed("cmake", "-S", str(folder), "-B", build, f"-Dtensor_DIR={config}", env=env)
+    succeed("cmake", "--build", build, env=env)
+    for it in "tensor", "static":
+        assert ran(os.path.join(build, it), env={}) == (ADDED, 0)
+
+
 def try_compiling(folder, compiler, config, library, *flags):
     """A C program that is made by what pkg-config says answers where the library lies."""
     if not shutil.which("pkg-config"):
@@ -150,6 +184,11 @@ def test_a_program_is_linked_to_the_library_of_the_archive(archive, compiler, tm
     root, folder = archive
     library = root.at(f"{folder}/lib")
     try_compiling(tmp_path, compiler, os.path.join(library, "pkgconfig"), library)
+
+
+def test_cmake_finds_the_library_of_the_archive(archive, tmp_path):
+    root, folder = archive
+    try_cmake(tmp_path, root.at(f"{folder}/lib/cmake/tensor"))
 
 
 # The client, in an environment of Python.
@@ -257,6 +296,10 @@ def test_a_program_is_linked_to_the_library_of_the_packages(debian, compiler, tm
     library = debian.at("usr/lib/x86_64-linux-gnu")
     sysroot = f"--define-variable=prefix={debian.at('usr')}"
     try_compiling(tmp_path, compiler, os.path.join(library, "pkgconfig"), library, sysroot)
+
+
+def test_cmake_finds_the_library_of_the_packages(debian, tmp_path):
+    try_cmake(tmp_path, debian.at("usr/lib/x86_64-linux-gnu/cmake/tensor"))
 
 
 def test_the_client_of_the_packages_answers(debian):

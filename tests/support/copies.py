@@ -10,7 +10,7 @@ from hostile import TOP
 SECONDS = 300
 ANSWERED, REFUSED = 0, 2
 CPU, OTHER = "x86-64-v2", "x86-64-v3"
-LEFT_OUT = ("out", "edits", "must-fail", ".git", "bench", "tests", "pictures", "__pycache__")
+LEFT_OUT = ("out", "edits", "must-fail", ".git", "bench", "tests", "__pycache__")
 # What tests change of a copy, beside crates.txt.
 CHANGED = (
     *(f"crates/{it}" for it in ("tensor_shape", "tensor_terms/proofs", "uses/src", "fault_reasons/src")),
@@ -39,7 +39,7 @@ chmod +x "$2"
 """
 # What a program answers that was built with the kit that stands in.
 BUILT = "built\nasked\n"
-# What makes the library of what is proved: an archiver and a linker.
+# What makes the library of what is proved: a compiler, an archiver and a linker.
 MAKER = """#!/bin/sh
 name=$2
 while [ $# -gt 0 ]; do
@@ -157,7 +157,7 @@ def kit_in(room):
     script(os.path.join(folder, "bin", "rt"), f"#!/bin/sh\necho {folder}/START-HERE.md\n")
     script(os.path.join(folder, "bin", "rattle"), PROVER)
     script(os.path.join(folder, "bin", "rattle-link"), LINKER)
-    for name in "llvm-ar", "ld.lld":
+    for name in "clang", "llvm-ar", "ld.lld":
         script(os.path.join(folder, "toolchain", "bin", name), MAKER)
     written(os.path.join(folder, "KIT-ID"), "a kit that stands in\n")
     script(os.path.join(room, "stand_in"), f"#!/bin/sh\necho built\nexec {shutil.which('cat')}\n")

@@ -31,6 +31,8 @@ COUNTS = struct.Struct("5Q")
 SECONDS = 120
 # How many runs in a row have to meet no refusal: the number of requests of threads differs by run.
 QUIET = 4
+# Each of the first EACH requests is refused in a run of its own, and behind them one of every STRIDE.
+EACH, STRIDE = 400, 7
 
 NO_MEMORY = "error 15 NoMemory\n"
 READ_FAULT, WRITE_FAULT = "error 16 ReadFault\n", "error 17 WriteFault\n"
@@ -49,9 +51,9 @@ FIVE = '{"data":[5],"dims":[]}\n'
 MATRICES = '"l":{"dims":[2,3],"data":[1,4,2,5,3,6]},"r":{"dims":[3,2],"data":[1,3,5,2,4,6]}'
 PRODUCT = '["contract","l","r",[[1,0]]]'
 PRODUCT_LINE = '{"data":[22,49,28,64],"dims":[2,2]}\n'
-# A sum of a contraction that is worth the start of two workers: 64 by 64 values, of 768
+# A sum of a contraction that is worth the start of two workers: 64 by 64 values, of 2,304
 # products each.
-TILES, DEPTH = 32, 256
+TILES, DEPTH = 32, 768
 SHARED = (
     f'["sum",["contract",["broadcast","l",[{TILES},{DEPTH}]],'
     f'["broadcast","r",[{DEPTH},{TILES}]],[[1,0]]],[0,1]]'
@@ -161,11 +163,12 @@ class Refusals:
 
     def in_turn(self, text, program=PROGRAM, kind="memory", onward=0):
         """Refuses each request for memory, or each start of a thread, in turn: alone, or with all
-        later ones. Yields the number of each, what the run printed, and whether it met a refusal.
-        It ends after QUIET runs in a row that met none."""
+        later ones. Beyond the first EACH it refuses one of every STRIDE. Yields the number of each,
+        what the run printed, and whether it met a refusal. It ends after QUIET runs in a row that
+        met none."""
         number = quiet = 0
         while quiet < QUIET:
-            number += 1
+            number += 1 if number < EACH else STRIDE
             ran = self.run(text, program, **{kind: number, "onward": onward})
             is_met = bool(self.refused if kind == "memory" else self.starts_refused)
             quiet = 0 if is_met else quiet + 1

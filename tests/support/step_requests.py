@@ -22,7 +22,7 @@ JOINED = '["concat","l",["stride","l",[1,2]],1]'
 SLID = f'["convolve",["pad",{JOINED},[[1,0],[0,1]]],["neg","r"],[1,0]]'
 SLID_VALUES = [-28, -86, -22, -74, -28, -85, -14, -42]
 # Those over and below matrices again and again, added up.
-WIDTH = 96
+WIDTH = 288
 LEFT_TOO = f'["broadcast","l",[{TILES},{WIDTH}]]'
 MANY_JOINED = f'["concat",{LEFT_TOO},["stride",{LEFT_TOO},[1,2]],1]'
 MANY_SLID = (

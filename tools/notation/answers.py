@@ -1,4 +1,4 @@
-"""The answers of the definitions: the line of a text or a frame, and where a fault is."""
+"""Answers of the definitions: the line for a text or a frame, and the place of a fault."""
 
 import functools
 

@@ -1,4 +1,4 @@
-"""Contracts in the sources of crates: the clauses of what is public, and the names in them."""
+"""Contracts in the sources of crates: the clauses of public items, and the names in them."""
 
 import os
 import re

@@ -1,4 +1,4 @@
-"""Files of the notation: what each brings in by name, and the definitions and types that it has."""
+"""Files of the notation: what each imports by name, and its definitions and types."""
 
 import re
 

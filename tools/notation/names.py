@@ -1,5 +1,6 @@
-"""What a name stands for in a file of the notation: the files are those of this repository and, for
-what they bring in, those of the kit."""
+"""The meaning of a name in a file of the notation. It stands for an item of this repository or, if the
+file imports it from there, of the kit.
+"""
 
 import functools
 import os

@@ -1,10 +1,10 @@
-"""docs/HEADLINE.md: the clauses of the headline and the definitions that they rest on, by chapters.
+"""docs/HEADLINE.md: the clauses of the headline and the definitions that they rest on, in chapters.
 
-headline.md, beside this file, has the words, and in braces what is put there:
-{clause CRATE FUNCTION NAME} a clause as it stands; {first} and {second} what each rests on;
-{definitions CRATE/FILE.. CRATE/FILE.NAME..} those definitions, each behind what it uses;
-{types NAME..} types of the code; {line CRATE/FILE.NAME: TEXT} the plain line of a definition that
-has none of its own in its file.
+headline.md, beside this file, has the text. Words in braces are replaced:
+{clause CRATE FUNCTION NAME} by a clause, word for word; {first} and {second} by the definitions on
+which that clause rests; {definitions CRATE/FILE.. CRATE/FILE.NAME..} by these definitions, each after
+those that it uses; {types NAME..} by types of the code; {line CRATE/FILE.NAME: TEXT} gives a
+definition a plain line, if its file has none.
 """
 
 import os

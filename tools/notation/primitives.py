@@ -1,8 +1,8 @@
-"""What is given and not read of a file: numbers, truth values and lists, by those of Python.
+"""Words that no file defines: numbers, truth values and lists, as values of Python.
 
-A number is an int, a list and a pair are tuples, a record is a dict, and a value of another data
-type is a tuple of its constructor's name and arguments. All these are words of the kit; each means
-what its files say there.
+A number is an int, a list and a pair are tuples, a record is a dict, and a value of another data type
+is a tuple of its constructor's name and arguments. All these are words of the kit, and mean what the
+kit's files say.
 """
 
 import re

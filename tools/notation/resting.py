@@ -1,5 +1,6 @@
-"""On which definitions a definition or a contract's clause rests: all that its words name, and what
-those name in turn."""
+"""The definitions on which a definition or a clause rests: all names in its words, and the names in
+their definitions in turn.
+"""
 
 import functools
 

@@ -1,7 +1,7 @@
-"""Definitions as functions of Python, made of their cases when they are first asked for.
+"""Definitions as functions of Python, made from their cases when they are first called.
 
-All definitions are total, so the order in which parts are worked out can't be seen: arguments are
-worked out first, but for the cases of an `if` and the like.
+All definitions are total, so the order of evaluation has no effect. Arguments are evaluated first,
+except the branches of an `if` and similar words.
 """
 
 import functools

@@ -72,7 +72,7 @@ module _ (k : RowSizes) (views : List View) (id : ℕ) (v : View) (c : Card) (de
       (λ t. All-apart P Q c.number x.cards (not_theirs j x t.0 t.1) others (all j x t.1))
       (at_set views id j new x there)
 
-  -- the same numbers, where the seat's own card becomes one of its number
+  -- the numbers stay, where the seat's own card becomes one of its number
   pub dealt_set : (new : View) (d : Card) → new.cards ≡ d ∷ [] → d.number ≡ c.number
       → AreDealt k (set views id new)
   dealt_set new d cards number = record {

@@ -39,7 +39,7 @@ IsCountWorld-step k w e false u c p = subst (IsCountWorld k) (sym p.1) c
 
 module _ (w : World) (actor : ℕ) where
   module _ (seat : ℕ) (rest : List ℕ) (is : owed_by w actor ≡ seat ∷ rest) where
-    -- who owes a seat is an actor
+    -- an actor that owes a seat is one of the actors
     owes : actor < length w.owed
     owes = ⊎_elim (λ less. less)
         (λ le. let none = ap length (sym is ∙ get_or_past w.owed actor [] le) in

@@ -53,7 +53,7 @@ module _ (k : RowSizes) (s : CountState) (history : List Event) (w : World)
   pub told : Agrees k history w c
   told = truth k s history w r id v c at is
 
-  -- a count has at most so many pre-waiters
+  -- a count has at most 16,382 pre-waiters
   pub few_pre : length w.pre ≤ 16382
   few_pre = let pre = length-pre w law in let phases = sizes.phases in let few = r.few in
       omega arith
@@ -307,7 +307,7 @@ module _ (k : RowSizes) (s : CountState) (history : List Event) (w : World)
   pub all_shows : (f : Fields) (e : ℕ) → f ≡ shown w e → all_notified f ≡ shown emptied 0
   all_shows f e here = ap all_notified here ∙ (word_follows w e law).all c.number
 
-  -- the same by a load that found nobody to notify
+  -- a load that found nobody to notify fits the event, too
   pub hear_fits : (word : ℕ) → c.phase ≡ Running → c.owing ≡ [] → w.stack ≡ []
       → Fitting k w emptied (NotifyAll c.number ∷ []) c (loading_by true c word)
   hear_fits word running none empty =

@@ -52,13 +52,13 @@ module _ (k : RowSizes) where
       let rest = map-number_at seats numbers (ap other_cards cards) in
       λ i. (card i).number ∷ rest i
 
--- the same at a count alone
+-- the numbers of the seats of a count alone
 pub map-number : (k : Sizes) (seats : List Seat) (numbers : List ℕ)
     → map card_of seats ≡ map (fresh k) numbers
     → map (λ seat. (card_of seat).number) seats ≡ numbers
 map-number k seats numbers cards = map-number_at (rowless k) seats numbers cards
 
--- the same of a count that was perhaps made
+-- the numbers of the seats, if the count was made
 pub numbers_from_zero : {X E : Type 0} (made : Result X E) (seats : X → List Seat)
     (sizes : X → Sizes) (waiters notifiers : ℕ)
     → IfOk made (λ m. sizes m

@@ -105,7 +105,7 @@ module _ (a b : Card) (later : IsLater a b) (word : ℕ) (x : Card) where
         (subst (λ d. MatchBool ((fields_of word).top == nobody) (x ≡ d)
         ((next : ℕ) × (x ≡ reading d next))) (loading-looking rowed b word never) look)
 
--- the same seat, and one that is later than a later one
+-- a seat is later than itself, and than one that is later than a later one
 pub later_same : (c : Card) → IsLater c c
 later_same c = record {
   waiters = refl;
@@ -157,7 +157,7 @@ pub rests_notify : (rowed : Bool) (a b d : Card) → IsLater a b → RestsOnNoti
 rests_notify rowed a b d later (before, after, more, rest) =
     (before, after, later_then a b before later more, rest)
 
--- the same seat after a store in its own next word
+-- a later seat after a store in its own next word
 later_stored : (a b : Card) → IsLater a b → (next : ℕ) → IsLater a (storing b next)
 later_stored a b later next = record {
   waiters = later.waiters;
@@ -230,7 +230,7 @@ unsettled c word offered seat (inl signal) settled =
     let less = signal.0 in let even = settled.answered in omega arith
 unsettled c word offered seat (inr pop) settled = pop.0.1 settled.empty
 
--- of a notification that looked
+-- a notification that looked and lost its exchange
 pub lost_notify : (rowed : Bool) (a b x d : Card) (o : Option ℕ) (word : ℕ) → IsLater a b
     → IsLook rowed b word x → o ≡ Some word
     → IfSome o (λ m. IsTryNotify x m notify.Contended d) → IsLater a d

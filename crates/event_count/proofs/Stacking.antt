@@ -119,7 +119,7 @@ module _ (k : RowSizes) (slots id : ℕ) (me : Sat) (is : me.0 ≡ only (card_in
         (refl, refl),
       )
 
-  -- the same where the place was found from the seat's own number
+  -- a store, where the place was found from the seat's own number
   pub store_keeps_at : (place n : ℕ) → c.phase ≡ Pre → c.number < c.waiters
       → place ≡ next_place c.number
       → Allows (ShowsWorld k) slots id me place (λ _. n)
@@ -224,7 +224,7 @@ module _ (k : RowSizes) (slots id : ℕ) (me : Sat) (is : me.0 ≡ only (card_in
         (refl, refl),
       )
 
-  -- the same where the place was found from the looked word
+  -- a load, where the place was found from the looked word
   pub read_keeps_at : (place word : ℕ) → c.looked ≡ word → (fields_of word).top ≢ nobody
       → place ≡ next_place (fields_of word).top
       → Allows (ShowsWorld k) slots id me place (λ n. n) (reads (step slots place 0 0 none) me)

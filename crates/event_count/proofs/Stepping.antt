@@ -179,7 +179,7 @@ module _ (k : RowSizes) (slots id : ℕ) (me : Sat) (is : me.0 ≡ only (card_in
         ),
       ))
 
-  -- the same where the gain is one card
+  -- an exchange whose gain is one card
   pub exchange_adds : (gains : Card → Exchange → Card) (old new : ℕ)
       → ((s : CountState) (shows : ShowsWorld k s) → get_elem? s.views id ≡ some me.0
       → slice_index s.words STATE ≡ old → After s shows STATE new (gains c (exchange_of old new old)))

@@ -161,7 +161,7 @@ module _ (k : RowSizes) (s : CountState) (history : List Event) (w : World)
     };
   }
 
-  -- the same of a step that has to do with no ticket, nor with the bank
+  -- a step that has to do with no ticket, nor with the bank
   pub acts : (events : List Event) (u : World) (d : Card) (place n : ℕ)
       (held : List (ℕ × Unit {0})) → v ≡ only c → d.credits ≡ c.credits
       → u.lengths ≡ w.lengths → BANK ≢ place → Fitting k w u events c d

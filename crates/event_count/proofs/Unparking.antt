@@ -149,7 +149,7 @@ module _ (k : RowSizes) (slots id : ℕ) (me : Sat) (is : me.0 ≡ only (card_in
             ),
           )
 
-  -- the same where the place was found from the seat that is owed
+  -- an unpark, where the place was found from the seat that is owed
   pub unpark_keeps_at : (place seat : ℕ) (rest : List ℕ) → c.owing ≡ seat ∷ rest
       → place ≡ parker_place seat
       → Allows (ShowsWorld k) slots id me place (λ _. 1)
@@ -230,7 +230,7 @@ module _ (k : RowSizes) (slots id : ℕ) (me : Sat) (is : me.0 ≡ only (card_in
         ),
       )
 
-  -- the same where the place was found from the seat that is owed
+  -- a load of the next word, where the place was found from the seat that is owed
   pub follow_keeps_at : (place seat : ℕ) (rest : List ℕ) → c.owing ≡ seat ∷ rest
       → place ≡ next_place seat
       → Allows (ShowsWorld k) slots id me place (λ n. n) (follows (step slots place 0 0 none) me)

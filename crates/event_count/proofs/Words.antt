@@ -242,7 +242,7 @@ module _ (k : RowSizes) (words : List ℕ) (es : ℕ → ℕ) (w : World) (r : W
           rows = rows_kept u same STATE n (λ row less e. absurd (omega arith));
         }
 
-    -- the same where the stack is as it was
+    -- the words after a step that leaves the stack as it was
     pub written_still : SameRows w u → u.stack ≡ w.stack → u.tokens ≡ w.tokens → ((m : ℕ) → es' m ≡ es m)
         → fields_of n ≡ shown u top_epoch → Written k (set words STATE n) u es'
     written_still same stack tokens epochs is = written_state same tokens top_epoch is
@@ -355,7 +355,7 @@ module _ (k : RowSizes) (words : List ℕ) (es : ℕ → ℕ) (w : World) (r : W
         rows = rows_kept u same (parker_place seat) n (λ row less e. absurd (omega arith));
       }
 
--- the same of a table
+-- the state word of a table shows its World
 pub word_shows : (k : RowSizes) (s : CountState) (shows : ShowsWorld k s)
     → shown_fields s.words ≡ shown shows.1 (shown_fields s.words).epoch
 word_shows k s shows = shown_fields-shown k s.words (next_epoch k shows.0) shows.1 shows.2.written

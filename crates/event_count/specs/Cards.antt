@@ -1,4 +1,4 @@
--- What a seat knows, and how its knowledge is dealt out and put together.
+-- Cards, which say what a seat knows, and how they are dealt out and put together.
 use Rattle.std.specs.Prelude.{ℕ, ◌+◌, List, [], ◌∷◌, ◌++◌, map, replicate, slice_index_or, Some, None}
 use Rattle.std.specs.Prelude.{false}
 use Rattle.std.specs.List.{range_with_len}
@@ -12,18 +12,20 @@ use Rattle.event_count.specs.declared.view.BankBook.{BankBook}
 use Rattle.event_count.specs.declared.view.Card.{Card}
 use Rattle.event_count.specs.declared.view.View.{View}
 
+-- an exchange that expected one word, offered another, and found a word
 abbrev pub exchange_of : ℕ → ℕ → ℕ → Exchange
 exchange_of expected offered found =
     record { expected = expected; offered = offered; found = found }
 
--- a row's length was found to be this, or the stop word was
+-- a load that found this length of the row
 abbrev pub found_in : ℕ → ℕ → Finding
 found_in row length = record { row = Some row; word = length }
 
+-- a load that found this stop word
 abbrev pub found_at_stop : ℕ → Finding
 found_at_stop word = record { row = None; word = word }
 
--- the seat has had nothing to do with the bank
+-- the book of a seat that has had nothing to do with the bank
 abbrev pub unused_book : BankBook
 unused_book = record { put_in = 0; taken_out = 0; withdrawals = 0 }
 
@@ -37,12 +39,12 @@ rowless k = record {
   credits = 0;
 }
 
--- the sizes without those of rows
+-- the sizes without the number of rows and of credits
 abbrev pub sizes_in : RowSizes → Sizes
 sizes_in k = record { waiters = k.waiters; notifiers = k.notifiers; first = k.first }
 
--- A seat of this number that has done nothing. Its looked word is that of an empty stack, so that
--- it names no seat as the top.
+-- The card of a seat of this number that has done nothing. Its looked word is the word of an empty
+-- stack, so it names no seat as the top.
 abbrev pub opening_card : RowSizes → ℕ → Card
 opening_card k number = record {
   waiters = k.waiters;
@@ -68,14 +70,15 @@ opening_card k number = record {
   found = found_at_stop 0;
 }
 
--- the same at a count alone
+-- the card of a seat of a count alone that has done nothing
 abbrev pub fresh : Sizes → ℕ → Card
 fresh k number = opening_card (rowless k) number
 
+-- the view with these cards alone
 abbrev pub view : List Card → View
 view cards = record { cards = cards; tickets = []; credits = 0 }
 
--- the view of a seat that has these tickets too
+-- the view of a seat that also has these tickets
 abbrev pub holding : List ℕ → Card → View
 holding tickets card = record { cards = card ∷ []; tickets = tickets; credits = 0 }
 
@@ -83,12 +86,12 @@ holding tickets card = record { cards = card ∷ []; tickets = tickets; credits 
 abbrev pub only : Card → View
 only card = view (card ∷ [])
 
--- the first card, where there is one
+-- the first card, if there is one
 abbrev pub first_card : List Card → Card
 first_card [] = fresh (record { waiters = 0; notifiers = 0; first = 0 }) 0
 first_card (card ∷ cards) = card
 
--- the cards but the first
+-- the cards without the first
 abbrev pub other_cards : List Card → List Card
 other_cards [] = []
 other_cards (card ∷ cards) = cards
@@ -101,23 +104,23 @@ card_in v = first_card v.cards
 abbrev pub opening_cards : RowSizes → List Card
 opening_cards k = map (opening_card k) (range_with_len 0 (k.waiters + k.notifiers))
 
--- the same at a count alone
+-- the cards of all seats of a count alone, by number
 abbrev pub fresh_cards : Sizes → List Card
 fresh_cards k = opening_cards (rowless k)
 
--- before any card is dealt
+-- the view before any card is dealt
 abbrev pub undealt : RowSizes → View
 undealt k = view (opening_cards k)
 
--- what is left where the first card is dealt
+-- the view that is left after the first card was dealt
 abbrev pub after_deal : View → View
 after_deal v = record v { cards = other_cards v.cards }
 
--- the view of the seat that it is dealt to
+-- the view of the seat to which the first card is dealt
 abbrev pub dealt : View → View
 dealt v = only (card_in v)
 
--- a seat that takes another in has the cards, tickets and credits of both
+-- the view of a seat that has taken another in: the cards, tickets and credits of both
 abbrev pub together : View → View → View
 together v w = record {
   cards = v.cards ++ w.cards;
@@ -125,6 +128,6 @@ together v w = record {
   credits = v.credits + w.credits;
 }
 
--- and the other has none
+-- the view of a seat that was taken in: it has nothing
 abbrev pub spent : View
 spent = view []

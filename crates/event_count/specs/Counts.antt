@@ -11,19 +11,19 @@ use Rattle.event_count.specs.declared.view.Card.{Card}
 use Rattle.event_count.specs.Cards.{rowless}
 use Rattle.event_count.specs.Known.{world_at_first, Agrees}
 
--- how often the events of a list are a wake
+-- the number of wakes in a list of events
 abbrev pub wakes_in : List Event → ℕ
 wakes_in [] = 0
 wakes_in (Wake seat ∷ events) = 1 + wakes_in events
 wakes_in (e ∷ events) = wakes_in events
 
--- A card tells how often its seat was pushed and woken: the epochs that it has used, and the wakes
--- among its events.
+-- A card shows how often its seat was pushed and woken: by its epoch, and by the wakes among its
+-- events.
 pub record CardCounts (k : RowSizes) (history : List Event) (c : Card) : Type 0 where
   pub pushes : c.epoch ≡ k.first + over (push_of c.number) (world_at_first k) history
   pub wakes : wakes_in c.events ≡ over (wake_of c.number) (world_at_first k) history
 
--- the seat was taken off the stack as often as it was pushed, unparked as often, and woken as often
+-- the seat was pushed, taken off the stack, unparked and woken equally often
 pub record AreEven (k : RowSizes) (history : List Event) (seat : ℕ) : Type 0 where
   pub taken : over (taking_of seat) (world_at_first k) history
       ≡ over (push_of seat) (world_at_first k) history
@@ -32,17 +32,18 @@ pub record AreEven (k : RowSizes) (history : List Event) (seat : ℕ) : Type 0 w
   pub woken : over (wake_of seat) (world_at_first k) history
       ≡ over (unpark_of seat) (world_at_first k) history
 
--- what the cards of a count that has ended say: one history of which they have their parts, and in
--- which the four counts of each waiter are equal
+-- the cards of a count that has ended: they have their parts of one history, in which the four
+-- counts of each waiter are equal
 pub record HasEnded (k : RowSizes) (cards : List Card) (history : List Event) (w : World)
     : Type 0 where
   pub runs : Runs (world_at_first k) history w
   pub known : All (Agrees k history w) cards
   pub even : (seat : ℕ) → seat < k.waiters → AreEven k history seat
 
+-- there are such a history and such a World
 abbrev pub HaveEnded : RowSizes → List Card → Type 0
 HaveEnded k cards = (history : List Event) × (w : World) × HasEnded k cards history w
 
--- the same of a count alone
+-- the cards of a count alone that has ended
 abbrev pub Ends : Sizes → List Card → Type 0
 Ends k cards = HaveEnded (rowless k) cards

@@ -1,4 +1,4 @@
--- What the cards say of the World and its history.
+-- What the cards say about the World and its history.
 use Rattle.std.specs.Prelude.{◌≡◌, ℕ, ◌+◌, ◌<◌, ◌≤◌, ◌==◌, nat_lt, List, length, map, filter, All}
 use mathlib.Core.Option.{some}
 use lib.ListN.{get_elem?}
@@ -19,7 +19,7 @@ use Rattle.event_count.specs.Cards.{rowless}
 abbrev pub world_at_first : RowSizes → World
 world_at_first k = opening_world k.waiters k.notifiers k.rows
 
--- the same of a count alone
+-- the World of a count alone that was just made
 abbrev pub first_world : Sizes → World
 first_world k = world_at_first (rowless k)
 
@@ -27,7 +27,7 @@ first_world k = world_at_first (rowless k)
 abbrev pub events_of : ℕ → List Event → List Event
 events_of actor history = filter (λ e. actor_of e == actor) history
 
--- the epoch of a seat's next push: its first, and one more for each push that it made
+-- the epoch of a seat's next push: its first epoch plus the number of its pushes
 abbrev pub next_epoch : RowSizes → List Event → ℕ → ℕ
 next_epoch k history seat = k.first + over (push_of seat) (world_at_first k) history
 
@@ -48,7 +48,8 @@ pub record Agrees (k : RowSizes) (history : List Event) (w : World) (c : Card) :
 abbrev pub numbers_in : View → List ℕ
 numbers_in v = map (λ c. c.number) v.cards
 
--- there is one card of each seat, in one view, and so who has them all knows the whole
+-- each seat has one card, which is in one view; so a seat that has all cards knows the whole
+-- history
 pub record AreDealt (k : RowSizes) (views : List View) : Type 0 where
   pub once : (n : ℕ)
       → total (λ v. times n (numbers_in v)) views ≡ one_if (nat_lt n (k.waiters + k.notifiers))

@@ -1,6 +1,6 @@
--- What holds in every state that a count's rule allows. The rule gives a lawful World and its
--- history; what is said of pre-waiters, stack, pushes and counts holds of every World and history
--- that the table shows, and so of that one, all together.
+-- The laws of a count: what holds in every state that its rule allows. The rule gives a lawful
+-- World and its history. What is said about pre-waiters, stack, pushes and counts holds for every
+-- World and history that the table shows.
 use Rattle.std.specs.Prelude.{◌≡◌, ℕ, ◌+◌, ◌<◌, ◌≤◌, Bool, true, false, List, [], ◌∷◌, ◌++◌, map}
 use Rattle.std.specs.Prelude.{filter}
 use Rattle.event_word.specs.declared.event.Event.{Event}
@@ -42,14 +42,14 @@ SignalsAreAnswered holds =
     (k : RowSizes) (s : CountState) → holds k s
     → (shown_fields s.words).signals ≤ (shown_fields s.words).pre
 
--- the phase is that of a pre-waiter
+-- the phase is Pre
 abbrev pub is_pre : Phase → Bool
 is_pre Running = false
 is_pre Pre = true
 is_pre Stacked = false
 is_pre Ended = false
 
--- the numbers of a view's seats whose phase is that of a pre-waiter
+-- the numbers of a view's seats whose phase is Pre
 abbrev pub pre_numbers_in : View → List ℕ
 pre_numbers_in v = map (λ c. c.number) (filter (λ c. is_pre c.phase) v.cards)
 
@@ -60,7 +60,7 @@ PreSeatsWait =
     → (n : ℕ) → (times n w.pre ≤ 1)
     × (times n w.pre ≡ total (λ v. times n (pre_numbers_in v)) s.views)
 
--- each seat stands on the stack once at most
+-- each seat stands on the stack at most once
 abbrev pub SeatsStandOnce : Type 0
 SeatsStandOnce =
     (k : RowSizes) (s : CountState) (history : List Event) (w : World) → Shows k s history w
@@ -71,7 +71,7 @@ abbrev pub ExchangesFoundNoSignal : Type 0
 ExchangesFoundNoSignal = (c d : Card) (word : ℕ) → IsTryCommit without_rows c word commit.Pushed d
     → (d.exchange.found ≡ word) × ((fields_of d.exchange.found).signals ≡ 0)
 
--- wherever a commit in the history pushed its seat, there was no signal before it
+-- if a commit in the history pushed its seat, there was no signal before it
 abbrev pub CommitsFoundNoSignal : Type 0
 CommitsFoundNoSignal =
     (k : RowSizes) (s : CountState) (history : List Event) (w : World) → Shows k s history w
@@ -79,8 +79,8 @@ CommitsFoundNoSignal =
     → Runs (world_at_first k) before u → phase_of (effect u (Commit seat)) seat ≡ Stacked
     → u.signals ≡ 0
 
--- From a notification of all on, until its seat's next event, the seat owes the whole stack that
--- there was before it, top first.
+-- After a notification of all, until its seat's next event, this seat owes the whole stack from
+-- before the notification, top first.
 abbrev pub TakenStacksAreOwed : Type 0
 TakenStacksAreOwed =
     (k : RowSizes) (s : CountState) (history : List Event) (w : World) → Shows k s history w
@@ -88,9 +88,9 @@ TakenStacksAreOwed =
     → history ≡ before ++ NotifyAll actor ∷ after → Runs (world_at_first k) before u
     → events_of actor after ≡ [] → Each (λ c. c.number ≡ actor → c.owing ≡ u.stack) s.views
 
--- Each waiter was taken off the stack as often as it was pushed, but for once where it is on it;
--- unparked as often as it was taken, but for once where it is owed; woken as often as it was
--- unparked, but for once where it has a token. Its card tells its pushes and its wakes.
+-- Each waiter was taken off the stack as often as it was pushed, except once if it is still on the
+-- stack. It was unparked as often as it was taken off, except once if it is owed. It was woken as
+-- often as it was unparked, except once if it has a token. Its card shows its pushes and its wakes.
 abbrev pub CountsFollow : Type 0
 CountsFollow =
     (k : RowSizes) (s : CountState) (history : List Event) (w : World) → Shows k s history w

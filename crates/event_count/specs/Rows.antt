@@ -1,4 +1,4 @@
--- What the contracts of a count with rows cite.
+-- The definitions that the contracts of a count with rows name.
 pub mod Gains
 pub mod Plays
 pub mod Steps

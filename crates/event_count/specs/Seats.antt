@@ -1,4 +1,4 @@
--- What contracts say of counts and seats.
+-- The parts of counts and seats that contracts name.
 use Rattle.std.specs.Prelude.{◌≡◌, ℕ, ◌+◌, [], Option, None}
 use Rattle.atomic_table.specs.Seated.{TableId}
 use Rattle.event_word.specs.declared.phase.Phase.TheVariants.{Running}
@@ -14,7 +14,7 @@ use Rattle.event_count.specs.Cards.{card_in, sizes_in}
 abbrev pub card_of : Seat → Card
 card_of seat = card_in seat.seat.me.0
 
--- the word of its last look, until it is used up
+-- the word of the seat's last look, until the look is used up
 abbrev pub looked_of : Seat → Option ℕ
 looked_of seat = seat.looked
 
@@ -22,7 +22,7 @@ looked_of seat = seat.looked
 abbrev pub HasNoLook : Seat → Type 0
 HasNoLook seat = looked_of seat ≡ None
 
--- which count's seat it is
+-- the count to which the seat belongs
 abbrev pub seat_id : Seat → TableId
 seat_id seat = seat.seat.table_id
 
@@ -32,11 +32,11 @@ pub record IsIdle (seat : Seat) : Type 0 where
   pub owes_none : (card_of seat).owing ≡ []
 
 module _ {K A : Type 0} {G : Ghosts K} where
-  -- the sizes that a count was made with, those of rows too
+  -- the sizes with which a count was made, with its rows and credits
   abbrev pub row_sizes_of : Count K A G → RowSizes
   row_sizes_of count = count.table.shared.key
 
-  -- how many seats a count was made with, by kind
+  -- the sizes with which a count was made, without rows and credits
   abbrev pub sizes_of : Count K A G → Sizes
   sizes_of count = sizes_in (row_sizes_of count)
 
@@ -44,7 +44,7 @@ module _ {K A : Type 0} {G : Ghosts K} where
   abbrev pub seats_of : Count K A G → ℕ
   seats_of count = (sizes_of count).waiters + (sizes_of count).notifiers
 
-  -- which count it is
+  -- what distinguishes this count from others
   abbrev pub count_id : Count K A G → TableId
   count_id count = count.table.shared.table_id
 

@@ -13,11 +13,11 @@ use Rattle.event_count.specs.Known.{world_at_first, next_epoch, Agrees, AreDealt
 use Rattle.event_count.specs.Kept.{Knows, Links}
 use Rattle.event_count.specs.Tickets.{credits_for, banked, AreCounted}
 
--- the words of a count's table, and what each of its seats knows
+-- a state of a count's table: its words, and what each of its seats knows
 abbrev pub CountState : Type 0
 CountState = State (Unit {0}) View
 
--- a count alone has no rows, and nobody stops it
+-- nobody stops a count alone, and nobody is to notify there
 pub record HasNoRows (w : World) : Type 0 where
   pub stop : w.stop ≡ 0
   pub silent : (actor : ℕ) → is_announcing w actor ≡ false

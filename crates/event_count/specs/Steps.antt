@@ -23,8 +23,8 @@ use Rattle.event_count.specs.Plays.{prewaits, consumes, pushes, cancels, signals
 use Rattle.event_count.specs.Plays.{unparks, wakes}
 use Rattle.event_count.specs.Shown.{CountState, Shows}
 
--- The seat's card c became d, with these events behind those of c. They lead from the World to
--- another, which the table then shows, with the same events behind the history.
+-- The seat's card c became d, which has these events behind the events of c. The events lead from
+-- the World to the World u. The table then shows u, with these events behind the history.
 pub record Adds (k : RowSizes) (history : List Event) (w : World) (c d : Card) (after : CountState)
     (events : List Event) (u : World) : Type 0 where
   pub gains : d.events ≡ c.events ++ events
@@ -32,8 +32,8 @@ pub record Adds (k : RowSizes) (history : List Event) (w : World) (c d : Card) (
   pub shows : Shows k after (history ++ events) u
 
 module _ (k : RowSizes) (slots : ℕ) (me : Sat) where
-  -- Whatever World and history the table shows when the seat takes the step, which makes f of the
-  -- word: the step tells what its play says, adds its events, and leaves the seat these tickets.
+  -- A step that makes f of its word. Whatever World and history the table shows before the step:
+  -- the step tells what its play says, adds its events, and leaves the seat with these tickets.
   abbrev pub AddsWith : List ℕ → Step (Unit {0}) → (ℕ → ℕ) → Told → Type 0
   AddsWith tickets step f told =
       (s : CountState) (history : List Event) (w : World) → Shows k s history w
@@ -44,24 +44,24 @@ module _ (k : RowSizes) (slots : ℕ) (me : Sat) where
       events u
       × told step me (slice_index s.words step.word) (holding tickets d, me.1)
 
-  -- the same of a step that has to do with no ticket
+  -- a step that has to do with no ticket, and adds its events
   abbrev pub AddsEvents : Step (Unit {0}) → (ℕ → ℕ) → Told → Type 0
   AddsEvents step f told = AddsWith [] step f told
 
-  -- the step is a load of the word at this place
+  -- a load of the word at this place, which adds its events
   abbrev pub Loads : ℕ → Told → Type 0
   Loads place told = AddsEvents (step slots place 0 0 none) (λ n. n) told
 
-  -- the step stores this word at this place
+  -- a store of this word at this place, which adds its events
   abbrev pub Stores : ℕ → ℕ → Told → Type 0
   Stores place word told = AddsEvents (step slots place word 0 none) (λ _. word) told
 
-  -- the step is an exchange of the state word, which expects one word and offers another
+  -- an exchange of the state word, which expects one word and offers another, and adds its events
   abbrev pub Exchanges : ℕ → ℕ → Gain → Type 0
   Exchanges old new gain =
       AddsEvents (step slots STATE old new none) (λ n. either (n == old) new n) (exchanges gain)
 
--- each step of a seat whose card is c, where it may be taken
+-- the steps of a seat whose card is c add their events, if the seat may take them
 pub record StepsOf (k : RowSizes) (slots : ℕ) (me : Sat) (c : Card) : Type 0 where
   pub look : (rowed : Bool) → IsKind rowed k → Loads k slots me STATE (looks rowed)
   pub read : (fields_of c.looked).top ≢ nobody
@@ -98,7 +98,7 @@ pub record StepsOf (k : RowSizes) (slots : ℕ) (me : Sat) (c : Card) : Type 0 w
   pub wake : c.phase ≡ Stacked
       → AddsEvents k slots me (step slots (parker_place c.number) 0 0 none) (λ _. 0) wakes
 
--- the same of every seat in use
+-- each step of every seat in use adds its events
 abbrev pub StepsAddTheirEvents : Type 0
 StepsAddTheirEvents = (k : RowSizes) (slots : ℕ) (me : Sat) → me.0 ≡ only (card_in me.0)
     → StepsOf k slots me (card_in me.0)

@@ -1,4 +1,4 @@
--- What the waiting calls answer, and what they make of the seat.
+-- What the waiting calls return, and how they change the seat's card.
 use Rattle.std.specs.Prelude.{◌≡◌, ℕ, ◌<◌, ◌≤◌, Bool, [], ◌∷◌}
 use Rattle.event_count.specs.declared.answers.TryCommit.TheVariants as commit
 use Rattle.event_count.specs.declared.answers.TryCancel.TheVariants as cancel
@@ -12,7 +12,8 @@ use Rattle.event_count.specs.declared.view.Card.{Card}
 use Rattle.event_count.specs.Gains.{IsLoad, IsLook, unparking, settling, waking}
 use Rattle.event_count.specs.Tries.{IsTryCommit, IsTryCancel, IsTryNotify, IsTryNotifyAll}
 
--- the same seat after looks, exchanges that found another word, and stores in its own next word
+-- d is the card c after looks, exchanges that found another word, and stores in the seat's own next
+-- word
 pub record IsLater (c d : Card) : Type 0 where
   pub waiters : d.waiters ≡ c.waiters
   pub rows : d.rows ≡ c.rows
@@ -31,14 +32,14 @@ pub record IsLater (c d : Card) : Type 0 where
   pub loads : c.loads ≤ d.loads
   pub exchanges : c.exchanges ≤ d.exchanges
 
--- an answer to a word that was so seen during the call, before which there were only looks and
--- exchanges that found another word
+-- the call's result is the answer to a word that was seen during the call; before that word there
+-- were only looks and exchanges that found another word
 abbrev pub Rests
     : (Card → ℕ → Card → Type 0) → (Card → ℕ → Card → Type 0) → Card → Card → Type 0
 Rests IsSeen IsAnswer c d = (before after : Card) × IsLater c before
     × ((word : ℕ) × IsSeen before word after × IsAnswer after word d)
 
--- the same seat, once it has swapped its parker word so often
+-- the card of the seat after it has swapped its parker word this number of times
 abbrev pub polled : Card → ℕ → Card
 polled c polls = record c { polls = polls }
 
@@ -46,7 +47,8 @@ polled c polls = record c { polls = polls }
 abbrev pub Sleeps : Card → Card → Type 0
 Sleeps c d = (polls : ℕ) × (c.polls < polls) × (d ≡ waking (polled c polls))
 
--- a commit that has ended rests on one try that did; one that pushed the seat has slept since
+-- the result of a commit follows from one try that was not contended; a seat that was pushed has
+-- slept since
 abbrev pub RestsOnCommit : Bool → Card → Committed → Card → Type 0
 RestsOnCommit rowed c committed.Consumed d = Rests (IsLoad rowed)
     (λ before word. IsTryCommit rowed before word commit.Consumed) c d
@@ -56,20 +58,20 @@ RestsOnCommit rowed c committed.Unparked d = Rests (IsLoad rowed)
 RestsOnCommit rowed c committed.Spent d =
     Rests (IsLoad rowed) (λ before word. IsTryCommit rowed before word commit.Spent) c d
 
--- a cancel that has ended rests on one try that did
+-- the result of a cancel follows from one try that was not contended
 abbrev pub RestsOnCancel : Bool → Card → Card → Type 0
 RestsOnCancel rowed c d =
     Rests (IsLoad rowed) (λ before word. IsTryCancel before word cancel.Done) c d
 
--- a notification that found nothing to do, or gave a signal, is done; one that popped a seat has
--- unparked it
+-- a notification that found nothing to do, or gave a signal, is done; a notification that popped a
+-- seat has unparked it
 abbrev pub EndsNotify : TryNotify → Card → Card → Type 0
 EndsNotify notify.Nothing c d = d ≡ c
 EndsNotify notify.Signalled c d = d ≡ c
 EndsNotify (notify.Popped seat) c d = (c.owing ≡ seat ∷ []) × (d ≡ unparking c)
 EndsNotify notify.Contended c d = ⊥
 
--- a notification that has ended rests on one try that did
+-- the result of a notification follows from one try that was not contended
 abbrev pub RestsOnNotify : Bool → Card → Card → Type 0
 RestsOnNotify rowed c d = Rests (IsLook rowed)
     (λ before word after. (answer : TryNotify) × (tried : Card)
@@ -81,7 +83,7 @@ EndsNotifyAll notify_all.Nothing c d = d ≡ c
 EndsNotifyAll notify_all.Taken c d = d ≡ settling c
 EndsNotifyAll notify_all.Contended c d = ⊥
 
--- a notification of all that has ended rests on one try that did
+-- the result of a notification of all follows from one try that was not contended
 abbrev pub RestsOnNotifyAll : Bool → Card → Card → Type 0
 RestsOnNotifyAll rowed c d = Rests (IsLoad rowed)
     (λ before word after. (answer : TryNotifyAll) × (tried : Card)

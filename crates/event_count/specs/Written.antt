@@ -1,4 +1,4 @@
--- What the words of a count's table say of the World.
+-- What the words of a count's table say about the World.
 use Rattle.std.specs.Prelude.{◌≡◌, ◌↔◌, ℕ, ◌+◌, ◌<◌, List, [], ◌∷◌, length, slice_index}
 use Rattle.event_word.specs.declared.word.Fields.{Fields}
 use Rattle.event_word.specs.Fields.{fields_of}
@@ -17,15 +17,16 @@ shown_fields words = fields_of (slice_index words STATE)
 abbrev pub next_fields : List ℕ → ℕ → Fields
 next_fields words seat = fields_of (slice_index words (next_place seat))
 
--- From these fields on, top and epoch of each next word lead down the stack to its end, which says
--- nobody at epoch 0. The epoch of a seat on it is that of its last push, one before its next.
+-- From these fields on, the top and epoch of each next word lead down the stack to its end, which
+-- has nobody at epoch 0. The epoch of a seat on the stack is the epoch of its last push, one before
+-- its next.
 abbrev pub Leads : List ℕ → (ℕ → ℕ) → List ℕ → Fields → Type 0
 Leads words epochs [] f = (f.top ≡ nobody) × (f.epoch ≡ 0)
 Leads words epochs (seat ∷ rest) f =
     (f.top ≡ seat) × (f.epoch + 1 ≡ epochs seat)
     × Leads words epochs rest (next_fields words seat)
 
--- what the words of the table say of the World, where each waiter's next push has this epoch
+-- what the words of the table say about the World, if each waiter's next push has this epoch
 pub record Written (k : RowSizes) (words : List ℕ) (w : World) (epochs : ℕ → ℕ) : Type 0 where
   pub room : length words ≡ words_for (k.waiters + k.rows)
   pub pre : (shown_fields words).pre ≡ length w.pre

@@ -1,15 +1,17 @@
-//! What the calls of a count answer.
+//! The results of the calls of a count. `specs/Tries.antt` and `specs/Waits.antt` say what each
+//! result means.
 
 /// How a try to commit ended.
 #[derive(Clone, Copy, Debug, PartialEq, Eq)]
 pub enum TryCommit {
     /// The seat took a signal, and runs.
     Consumed,
-    /// The seat is on the stack. It is not answered yet.
+    /// The seat is on the stack, and has to sleep until it takes its token.
     Pushed,
-    /// The seat has no push left. Whatever the signals, it cancelled, and runs.
+    /// The seat has used all its epochs. It cancelled, whether or not there was a signal, and runs.
     Spent,
-    /// Another step came between the look and the exchange: nothing has changed.
+    /// Another step came between the look and the exchange. Nothing has changed, except perhaps the
+    /// seat's own next word.
     Contended,
 }
 
@@ -25,11 +27,11 @@ pub enum TryCancel {
 /// How a try to notify ended.
 #[derive(Clone, Copy, Debug, PartialEq, Eq)]
 pub enum TryNotify {
-    /// The looked word has nobody to notify.
+    /// The looked word has nobody to notify: its stack is empty, and each pre-waiter has a signal.
     Nothing,
     /// A pre-waiter got a signal.
     Signalled,
-    /// This seat was popped, and the notifier owes it an unpark. It is not answered yet.
+    /// This seat was popped, and the notifier owes it an unpark.
     Popped(u16),
     /// Another step came between the look and the exchange: nothing has changed.
     Contended,
@@ -40,27 +42,27 @@ pub enum TryNotify {
 pub enum Committed {
     /// The seat took a signal.
     Consumed,
-    /// The seat parked, and was unparked. It is not answered yet.
+    /// The seat was pushed, slept, and took its token.
     Unparked,
-    /// The seat has no push left. Whatever the signals, it cancelled.
+    /// The seat has used all its epochs. It cancelled, whether or not there was a signal.
     Spent,
 }
 
-/// What a commit made of its seat, in the World behind a lock.
+/// How a commit ended in the World behind a lock.
 #[derive(Clone, Copy, Debug, PartialEq, Eq)]
 pub(crate) enum CommitIn {
-    /// The World doesn't allow the commit.
+    /// The commit was not possible in the World.
     Impossible,
     /// The seat took a signal, and runs.
     Consumed,
-    /// The seat is on the stack. It is not answered yet.
+    /// The seat is on the stack, and has to sleep until it takes its token.
     Pushed,
 }
 
 /// How a try to notify all ended.
 #[derive(Clone, Copy, Debug, PartialEq, Eq)]
 pub enum TryNotifyAll {
-    /// The looked word has nobody to notify.
+    /// The looked word has nobody to notify: its stack is empty, and each pre-waiter has a signal.
     Nothing,
     /// Each pre-waiter has a signal, and the notifier owes each seat of the stack an unpark.
     Taken,

@@ -1,4 +1,5 @@
-//! The event count: how it is made and closed. A count alone and one with rows are its two kinds.
+//! `Count`: how an event count is made and closed. A count alone and a count with rows are its two
+//! kinds. The fields of `Count` here are read by all calls of the crate.
 ghost use Rattle.std.specs.Prelude.{◌≡◌, ◌+◌, ◌<◌, ◌≤◌, ◌↔◌, true, false, map, All, vec_len, IfOk};
 ghost use Rattle.std.specs.Prelude.{IsErrOf};
 ghost use Rattle.event_word.specs.Step.{row_limit};
@@ -19,10 +20,10 @@ use atomic_table::Table;
 use std::alloc::{AllocError, Allocator, Global};
 use std::marker::PhantomData;
 
-/// A packed word and a line of words for each waiter, on which threads wait for one another, as in
-/// Eigen's `EventCount.h`. Its kind says whether it has rows too.
+/// An event count as in Eigen's `EventCount.h`: a packed word, and a line of words for each waiter,
+/// by which threads wait for one another. Its kind says whether it has rows, too.
 ///
-/// All its calls are made through a seat, and each seat by one thread at a time.
+/// Every call is made through a seat, and one thread at a time uses a seat.
 #[derive(Drop)]
 pub struct Count<K: Kind, A: Allocator = Global> {
     pub(crate) table: Table<(), View, RowSizes, Law, A>,
@@ -37,14 +38,14 @@ pub struct Count<K: Kind, A: Allocator = Global> {
     ghost some: { K.rowed ≡ true → 0 < sizes.rows },
 }
 
-/// A count alone, without rows.
+/// An event count without rows.
 pub type EventCount<A = Global> = Count<Alone, A>;
 
-/// An event count whose table also has the lengths of rows of jobs, and the word that stops all who
-/// wait. So a waiter sleeps only where it has found each row empty and no stop since its prewait,
-/// and whoever publishes a job, or stops the count, is to notify.
+/// An event count whose table also has the lengths of rows of jobs, and a stop word. A waiter
+/// sleeps only if it has found each row empty and no stop since its prewait. A seat that publishes
+/// a job or stops the count has to notify afterwards.
 ///
-/// The jobs lie elsewhere, each with the ticket that its publish gave.
+/// The jobs lie elsewhere, each with the ticket that its publish returned.
 pub type RowCount<A = Global> = Count<Rowed, A>;
 
 impl<K: Kind, A: Allocator> Count<K, A> {
@@ -52,7 +53,7 @@ impl<K: Kind, A: Allocator> Count<K, A> {
     ghost use Rattle.event_count.specs.Seats.{IsIdle, HasNoLook};
     ghost use Rattle.event_count.specs.Rows.Ending.{EndsRows};
 
-    /// A count of these sizes, and its seats by number.
+    /// Returns a count of these sizes and its seats, by number.
     pub(crate) fn with_sizes(
         alloc: A,
         sizes: &RowSizes,
@@ -86,7 +87,7 @@ impl<K: Kind, A: Allocator> Count<K, A> {
         Ok((count, seats))
     }
 
-    /// The last word, given a list of all seats, which are taken out.
+    /// Closes the count and returns the last state word. Takes all seats out of the list.
     pub(crate) fn close_with<B: Allocator>(self, seats: &mut Vec<Seat, B>) -> u64
         requires ours { All (IsSeatOf self) seats.old.items }
         requires all { vec_len seats.old ≡ seats_of self }
@@ -109,7 +110,8 @@ impl<A: Allocator> Count<Alone, A> {
     ghost use Rattle.event_count.specs.Seats.{IsIdle, HasNoLook};
     ghost use Rattle.event_count.specs.Counts.{Ends};
 
-    /// A count, and its seats by number: the waiters' first, and then the notifiers'.
+    /// Returns a count and its seats, by number: the waiters first, then the notifiers. Too many
+    /// waiters are reported before an allocation fails.
     pub fn new(
         alloc: A,
         waiters: u16,
@@ -130,7 +132,7 @@ impl<A: Allocator> Count<Alone, A> {
         EventCount::new_at(alloc, waiters, notifiers, 0)
     }
 
-    /// The same, where the epoch of each seat's first push is given.
+    /// Does what `new` does, with the given epoch for each seat's first push.
     pub fn new_at(
         alloc: A,
         waiters: u16,
@@ -164,8 +166,9 @@ impl<A: Allocator> Count<Alone, A> {
         Ok(made)
     }
 
-    /// The last word, which nobody waits in. What the seats have done is one history, in which each
-    /// waiter was pushed, taken off the stack, unparked and woken as often.
+    /// Closes the count, given all its seats, and returns the last state word, in which nobody
+    /// waits. What the seats did is one history, in which each waiter was pushed, taken off the
+    /// stack, unparked and woken equally often.
     pub fn close<B: Allocator>(self, mut seats: Vec<Seat, B>) -> u64
         requires ours { All (IsSeatOf self) seats.items }
         requires all { vec_len seats ≡ seats_of self }

@@ -1,4 +1,5 @@
-//! The single steps of the tries: a store, and exchanges of the state word against a looked one.
+//! The single steps of the tries: a store, and exchanges of the state word that expect a looked
+//! word. `plays.rt` has the play of each step, and a change here is a change of its play.
 ghost use Rattle.std.specs.Prelude.{◌≡◌, ◌≢◌, ◌<◌, ◌==◌, ℕ, [], Some, None, IsTrue, IsFalse};
 ghost use mathlib.Core.Option.{none};
 ghost use prog.Atomic.{either};
@@ -28,8 +29,8 @@ impl<K: Kind, A: Allocator> Count<K, A> {
     ghost use Rattle.event_count.specs.Seats.{card_of, looked_of, row_sizes_of, count_id, IsSeatOf};
     ghost use Rattle.event_count.specs.Tries.{Meets, MeetsAll};
 
-    /// One exchange of the state word, which wants a looked word and offers another in its place.
-    /// It answers whether it found the one that it wants.
+    /// Exchanges the state word for the offered word if it is the wanted word. Returns whether it
+    /// was.
     fn exchange<G: Gains>(
         &self,
         seat: &mut atomic_table::Seat<(), View>,
@@ -55,7 +56,7 @@ impl<K: Kind, A: Allocator> Count<K, A> {
         found == wanted
     }
 
-    /// A pre-waiter takes a signal.
+    /// Takes a signal for the pre-waiter. Returns whether the exchange found the looked word.
     pub(crate) fn consume(&self, seat: &mut Seat, word: u64, offered: u64) -> bool
         requires of { IsSeatOf self.now seat.old }
         requires passed { MayCommit K.rowed (row_sizes_of self.now) (card_of seat.old) }
@@ -75,7 +76,7 @@ impl<K: Kind, A: Allocator> Count<K, A> {
         true
     }
 
-    /// Stores what the seat will have below it.
+    /// Stores the top and epoch that will be below the seat on the stack in its next word.
     pub(crate) fn store_next(&self, seat: &mut Seat, next: u64)
         requires of { IsSeatOf self.now seat.old }
         requires pre { (card_of seat.old).phase ≡ Pre }
@@ -91,7 +92,7 @@ impl<K: Kind, A: Allocator> Count<K, A> {
             .store::<Stores>(&mut seat.seat, place, next);
     }
 
-    /// A pre-waiter goes onto the stack.
+    /// Pushes the pre-waiter onto the stack. Returns whether the exchange found the looked word.
     pub(crate) fn push(&self, seat: &mut Seat, word: u64, offered: u64) -> bool
         requires of { IsSeatOf self.now seat.old }
         requires passed { MayCommit K.rowed (row_sizes_of self.now) (card_of seat.old) }
@@ -116,7 +117,7 @@ impl<K: Kind, A: Allocator> Count<K, A> {
         true
     }
 
-    /// A pre-waiter leaves.
+    /// Takes the seat out of the pre-waiters. Returns whether the exchange found the looked word.
     pub(crate) fn leave(&self, seat: &mut Seat, word: u64, offered: u64) -> bool
         requires of { IsSeatOf self.now seat.old }
         requires pre { (card_of seat.old).phase ≡ Pre }
@@ -133,7 +134,7 @@ impl<K: Kind, A: Allocator> Count<K, A> {
         true
     }
 
-    /// A pre-waiter gets a signal.
+    /// Gives a pre-waiter a signal. Returns whether the exchange found the looked word.
     pub(crate) fn signal(&self, seat: &mut Seat, word: u64, offered: u64) -> bool
         requires of { IsSeatOf self.now seat.old }
         requires running { (card_of seat.old).phase ≡ Running }
@@ -148,7 +149,8 @@ impl<K: Kind, A: Allocator> Count<K, A> {
         self.exchange::<Signals>(&mut seat.seat, word, offered)
     }
 
-    /// The looked top is popped.
+    /// Pops the top of the looked word, which the seat owes an unpark then. Returns whether the
+    /// exchange found the looked word.
     pub(crate) fn pop(&self, seat: &mut Seat, word: u64, next: u64, offered: u64) -> bool
         requires of { IsSeatOf self.now seat.old }
         requires running { (card_of seat.old).phase ≡ Running }
@@ -172,7 +174,8 @@ impl<K: Kind, A: Allocator> Count<K, A> {
         true
     }
 
-    /// The stack is taken.
+    /// Gives each pre-waiter a signal and takes the whole stack, whose seats are owed an unpark
+    /// each. Returns whether the exchange found the looked word.
     pub(crate) fn take_all(&self, seat: &mut Seat, word: u64, offered: u64) -> bool
         requires of { IsSeatOf self.now seat.old }
         requires running { (card_of seat.old).phase ≡ Running }

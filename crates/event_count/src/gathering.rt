@@ -1,4 +1,5 @@
-//! The end of a count: one seat takes in all others, and so knows the whole.
+//! The end of a count: one seat takes over the cards of all others, and so knows the whole history.
+//! `close` and `shut` use it.
 ghost use Rattle.std.specs.Prelude.{◌≡◌, ◌<◌, [], map, reverse, All};
 ghost use Rattle.event_count.specs.Seats.{card_of, seat_id};
 
@@ -8,7 +9,8 @@ use crate::view::View;
 use atomic_table::Shared;
 use std::alloc::Allocator;
 
-/// A keeper that has no card takes in the seats, the last first.
+/// Takes the seats out of the list, the last first, and joins their cards to the keeper, which has
+/// none yet.
 pub(crate) fn gather<B: Allocator>(
     shared: &Shared<(), View, RowSizes, Law>,
     keeper: &mut atomic_table::Seat<(), View>,

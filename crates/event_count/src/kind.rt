@@ -1,13 +1,14 @@
-//! What tells a count with rows from a count alone: a type, by which clauses and steps are told.
+//! `Kind`: the type that tells a count with rows from a count alone. Clauses and plays depend on it
+//! (`specs/Kinds.antt`).
 ghost use Rattle.std.specs.Prelude.{Bool};
 
-/// A kind of counts.
+/// A kind of count.
 pub trait Kind {
-    // Whether it has rows, and may be stopped.
+    // Whether the count has rows, and may be stopped.
     ghost rowed: { Bool };
 }
 
-/// A count alone.
+/// The kind of counts without rows.
 pub struct Alone;
 
 impl Kind for Alone {
@@ -16,7 +17,7 @@ impl Kind for Alone {
     ghost rowed = { false };
 }
 
-/// A count with rows.
+/// The kind of counts with rows.
 pub struct Rowed;
 
 impl Kind for Rowed {

@@ -12,23 +12,23 @@
 //!         count.commit(rt, &mut seat);
 //!     }
 //!
-//! `commit` sleeps where nobody was notified since its prewait. Once it returns the waiter begins
-//! again, since another may have made the condition false meanwhile. A notifier makes the condition
-//! true, and then notifies one waiter or all:
+//! `commit` takes a signal if there is one, and otherwise sleeps until the waiter is unparked. Once
+//! it returns, the waiter begins again, since another thread may have made the condition false
+//! meanwhile. A notifier makes the condition true, and then notifies one waiter or all:
 //!
 //!     make_condition_true();
 //!     count.notify(rt, &mut seat);
 //!
 //! All waiters of a count wait for one condition. A signal is not addressed: another pre-waiter may
-//! take it, even one that has come since, and then it is that one that checks the condition.
+//! take it, even one that came after the notification. Then that pre-waiter checks the condition.
 //! Threads that wait for different conditions need a count each.
 //!
-//! `LockedCount` is the same behind a lock, over a plain `World`. A pool is generic over both, by
-//! the trait `WaitPoint`.
+//! `LockedCount` does the work of an `EventCount` behind a lock, over a plain `World`. A pool is
+//! generic over both, by the trait `WaitPoint`.
 //!
-//! `EventCount` and `RowCount` are the two kinds of one `Count`. `RowCount` is that whose condition
-//! lies in its own table: rows of jobs, by their lengths, and a stop. A waiter passes all of them,
-//! or gives up waiting:
+//! `EventCount` and `RowCount` are the two kinds of one `Count`. The condition of a `RowCount` lies
+//! in its own table: the lengths of rows of jobs, and a stop word. A waiter passes all of them, or
+//! gives up waiting:
 //!
 //!     count.prewait(&mut seat);
 //!     match count.pass_all(&mut seat) {
@@ -36,8 +36,8 @@
 //!         PassAll::Stopped | PassAll::Jobs(_) => count.cancel(rt, &mut seat),
 //!     }
 //!
-//! Who has a job publishes it, lays it down with its ticket, and notifies; who has taken the job
-//! gives the ticket back. So no row with jobs is forgotten, whatever threads do in between:
+//! To add a job, publish it, lay it down with its ticket, and notify. After a job was taken, give
+//! its ticket back. So no row with jobs is forgotten, whatever other threads do in between:
 //!
 //!     let ticket = count.publish(&mut seat, row)?;
 //!     lay_down(job, ticket);
@@ -52,33 +52,38 @@
 //! | | 28 to 41 | how many of them have a signal |
 //! | | 42 to 63 | the epoch of the top's push, or 0 |
 //! | next word of a waiter | all | the top and the epoch that were there when it was pushed |
-//! | parker word of a waiter | all | 1 where it has a token |
+//! | parker word of a waiter | all | 1 if it has a token, else 0 |
 //! | length word of a row | all | how many jobs the row has, by their tickets |
 //! | stop word | all | 0 until somebody stops the count |
-//! | bank | all | how many credits no seat has, for any to withdraw |
+//! | bank | all | how many credits are in the bank, for any seat to withdraw |
 //!
-//! | Who waits | Its answer | Who gives it | Who takes it |
+//! | Who waits | What it is given | By whom | Who takes it |
 //! |---|---|---|---|
-//! | a pre-waiter | a signal | a notification, to one that has none | a commit |
-//! | | | | a cancel, where all have one |
-//! | a seat on the stack | a token | the notifier that popped or took it | the seat |
+//! | a pre-waiter | a signal | a notification, if a pre-waiter has none | a commit |
+//! | | | | a cancel, if all have one |
+//! | a seat on the stack | a token | the notifier that popped it or took the stack | the seat |
 //!
 //! # Why no wake-up is lost
 //!
-//! Every step on a word is sequentially consistent. Say that a waiter's check, after its prewait,
-//! found the condition false, and that it became true only then. The notifier looks after that, so
-//! its word counts the waiter as a pre-waiter, or has it on the stack, or the waiter was answered.
+//! Every step on a word is sequentially consistent. Say that a waiter, after its prewait, found the
+//! condition false, and that the condition became true only afterwards. The notifier looks at the
+//! state word after that. So in its word the waiter is a pre-waiter, or is on the stack, or was
+//! notified.
 //!
-//! - Where that word has fewer signals than pre-waiters, the notification adds one. A commit takes
-//!   a signal that it finds, and pushes only by an exchange that found none; so some pre-waiter
-//!   takes it, and checks the condition again.
-//! - Where each pre-waiter has a signal, none of them will sleep, and the notification pops the top
+//! - If that word has fewer signals than pre-waiters, the notification adds one. A commit takes a
+//!   signal that it finds, and pushes only by an exchange that found none. So some pre-waiter takes
+//!   the signal, and checks the condition again.
+//! - If each pre-waiter has a signal, none of them will sleep. Then the notification pops the top
 //!   of the stack and gives that seat its token.
-//! - Where there is nobody on the stack either, there is nobody to notify.
+//! - If the stack is empty, too, there is nobody to notify.
 //!
-//! A step that comes between a look and its exchange makes the exchange find another word, and the
-//! look is made again. A word can't come back unnoticed: its epoch is that of the top's push, each
-//! push of a seat has an epoch of its own, and a seat that has used all of them never parks again.
+//! If another step comes between a look and its exchange, the exchange finds another word, and the
+//! look is made again. A word can't come back unnoticed: it has the epoch of the top's push, and
+//! each push of a seat has an epoch of its own. A seat that has used all its epochs never parks
+//! again.
+//!
+//! The waits and wakes of worker_pool and waking_rows rest on this table. A change of a word's
+//! place, of a play or of a call is a change of the rule (`specs/Shown.antt`) and of its laws.
 #![tactic(auto)]
 
 mod answers;

@@ -1,4 +1,5 @@
-//! The loads that the tries rest on: of the state word, and in a look of the top's next word too.
+//! The loads on which the tries rest: of the state word, and for a look of the top's next word,
+//! too.
 ghost use Rattle.std.specs.Prelude.{◌≡◌, ◌≢◌, Some, None, IsSome};
 ghost use Rattle.std.specs.Option.{ForSome};
 
@@ -16,9 +17,9 @@ impl<K: Kind, A: Allocator> Count<K, A> {
     ghost use Rattle.event_count.specs.Gains.{loading, reading, IsRead, IsLook, Fits, IsHeard};
     ghost use Rattle.event_count.specs.Seats.{card_of, looked_of, row_sizes_of, IsSeatOf};
 
-    /// Loads the state word, and keeps it in the seat until a step uses it up. Where somebody is on
-    /// the stack, the top's next word is loaded and kept too. At a count with rows a seat that is
-    /// to notify, and finds nobody to notify, has notified all by that.
+    /// Loads the state word, and keeps it in the seat until a step uses it up. If somebody is on
+    /// the stack, loads and keeps the top's next word, too. At a count with rows, this look counts
+    /// as a notification of all if the seat is to notify and finds nobody to notify.
     pub fn look(&self, seat: &mut Seat) -> u64
         requires of { IsSeatOf self.now seat.old }
         ensures of { IsSeatOf self.now seat.new }
@@ -31,7 +32,7 @@ impl<K: Kind, A: Allocator> Count<K, A> {
         word
     }
 
-    /// Loads the next word of the looked top, where there is one.
+    /// Loads the next word of the looked word's top, if there is a top.
     fn load_top(&self, seat: &mut Seat, word: u64)
         requires of { IsSeatOf self.now seat.old }
         requires looked { (card_of seat.old).looked ≡ word }
@@ -51,7 +52,7 @@ impl<K: Kind, A: Allocator> Count<K, A> {
         }
     }
 
-    /// Loads the state word. A step that pops nobody needs no more.
+    /// Loads and returns the state word. A step that pops no seat needs nothing more.
     pub(crate) fn load_state(&self, seat: &mut Seat) -> u64
         requires of { IsSeatOf self.now seat.old }
         ensures of { IsSeatOf self.now seat.new }
@@ -67,7 +68,7 @@ impl<K: Kind, A: Allocator> Count<K, A> {
         word
     }
 
-    /// Loads the next word of the looked top.
+    /// Loads the next word of the looked word's top.
     fn load_next(&self, seat: &mut Seat, word: u64)
         requires of { IsSeatOf self.now seat.old }
         requires looked { (card_of seat.old).looked ≡ word }

@@ -1,4 +1,5 @@
-//! A count behind a lock.
+//! `LockedCount`: an event count behind a lock. Tests compare `EventCount` with it, and a pool may
+//! use it instead.
 ghost use Rattle.std.specs.Prelude.{◌≡◌, ◌≢◌, ◌+◌, ◌<◌, ◌≤◌, [], map, All, IfOk};
 ghost use Rattle.std.specs.List.{range_with_len};
 ghost use Rattle.std.specs.Sync.Mutex.{mutex_guard_value};
@@ -16,19 +17,18 @@ use event_word::{Event, Phase};
 use std::alloc::{AllocError, Allocator, Global};
 use std::sync::{Condvar, Mutex, MutexGuard, Wait};
 
-/// A count behind one lock. Whenever the lock is free, what it holds is a lawful World without
-/// rows.
+/// An event count behind one lock. Whenever the lock is free, it holds a lawful World without rows.
 #[derive(Drop)]
 pub struct LockedCount<A: Allocator = Global> {
-    // Only contracts read it.
+    // The sizes of the count. Only contracts read this field.
     sizes: Sizes,
     world: Mutex<SteppedWorld<A>>,
-    // Told after each notification.
+    // Signalled after each notification.
     notified: Condvar,
     ghost few: { sizes.waiters ≤ most_waiters },
 }
 
-/// A seat at a `LockedCount`.
+/// A seat at a `LockedCount`: its number and its phase.
 #[derive(Drop)]
 pub struct LockedSeat {
     number: u32,
@@ -37,6 +37,7 @@ pub struct LockedSeat {
 }
 
 impl LockedSeat {
+    /// Returns a seat that runs.
     fn new(number: u32) -> LockedSeat
         ensures number { result.number ≡ number }
         ensures running { result.phase ≡ Running }
@@ -47,7 +48,7 @@ impl LockedSeat {
         }
     }
 
-    /// The number of a waiter.
+    /// Returns the number of the seat, which is a waiter.
     fn waiter(&self) -> u16
         requires { self.now.number < most_waiters }
         ensures { result ≡ self.now.number }
@@ -56,7 +57,7 @@ impl LockedSeat {
     }
 }
 
-/// The seats from 0 on.
+/// Returns `count` seats, numbered from 0 on.
 fn seats<A: Allocator>(alloc: A, count: u32) -> Result<Vec<LockedSeat, A>, AllocError>
     ensures numbers { IfOk result (λ seats.
         map (λ seat. seat.number) seats.items ≡ range_with_len 0 count) }
@@ -70,7 +71,7 @@ fn seats<A: Allocator>(alloc: A, count: u32) -> Result<Vec<LockedSeat, A>, Alloc
 }
 
 impl<A: Allocator> LockedCount<A> {
-    /// A count of the World's seats, which begins with that World.
+    /// Returns a count that begins with this World and has its sizes.
     fn beginning_with(world: SteppedWorld<A>) -> LockedCount<A>
         requires { world.world ≡ first_world world.sizes }
         ensures { result.sizes ≡ world.sizes }
@@ -82,7 +83,7 @@ impl<A: Allocator> LockedCount<A> {
         }
     }
 
-    /// Commits in the World that the lock holds. A seat that was pushed sleeps.
+    /// Commits the seat in the World behind the lock. A seat that was pushed sleeps.
     fn commit<'a, R: Wait>(
         &'a self,
         rt: &R,
@@ -98,7 +99,7 @@ impl<A: Allocator> LockedCount<A> {
         }
     }
 
-    /// A stacked seat sleeps until it has taken its token.
+    /// Puts a stacked seat to sleep until it has taken its token.
     fn take_token<'a, R: Wait>(
         &'a self,
         rt: &R,
@@ -117,8 +118,9 @@ impl<A: Allocator> LockedCount<A> {
     }
 }
 
-// Each call is steps of the World under the lock. What that held is known by its type alone, so no
-// clause of a call names it, nor says that its sizes are the count's.
+// Each call takes steps of the World under the lock. Contracts know the World behind the lock by
+// its type alone. So no clause of a call says which steps it took, or that the World's sizes are
+// the count's.
 impl<A: Allocator + Clone> WaitPoint<A> for LockedCount<A> {
     type Seat = LockedSeat;
 
@@ -126,7 +128,7 @@ impl<A: Allocator + Clone> WaitPoint<A> for LockedCount<A> {
 
     ghost seat_count = { λ count. count.sizes.waiters + count.sizes.notifiers };
 
-    // A seat is no more than a number and a phase.
+    // A seat is only a number and a phase.
     ghost Identity = { Unit {0} };
 
     ghost identity_of = { λ _. tt };
@@ -137,7 +139,7 @@ impl<A: Allocator + Clone> WaitPoint<A> for LockedCount<A> {
 
     ghost phase_of = { λ seat. seat.phase };
 
-    // A seat unparks what it pops before it gives back the lock.
+    // A seat unparks what it pops before it releases the lock.
     ghost owing_of = { λ _. [] };
 
     ghost is_last = { IsLast };

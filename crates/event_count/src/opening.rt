@@ -1,4 +1,5 @@
-//! What a count begins with: its words, and its seats.
+//! How a count begins: its words and its seats. `specs/Cards.antt` and `specs/Places.antt` state
+//! them.
 ghost use Rattle.std.specs.Prelude.{◌≡◌, ◌+◌, ◌<◌, ◌≤◌, [], length, map, vec_capacity, All, IfOk};
 ghost use Rattle.event_word.specs.Step.{row_limit};
 ghost use Rattle.event_count.specs.Limits.{epoch_limit};
@@ -13,7 +14,7 @@ use atomic_table::Shared;
 use event_word::{Fields, Phase, pack};
 use std::alloc::{AllocError, Allocator};
 
-/// Nobody waits.
+/// The fields of the state word if nobody waits.
 const OPENING: Fields = Fields {
     top: 16_383,
     pre: 0,
@@ -21,7 +22,7 @@ const OPENING: Fields = Fields {
     epoch: 0,
 };
 
-/// The seat of the keeper's first card, which has this number.
+/// Returns the seat that has the keeper's first card, which has this number.
 pub(crate) fn deal(
     shared: &Shared<(), View, RowSizes, Law>,
     keeper: &mut atomic_table::Seat<(), View>,
@@ -54,14 +55,14 @@ pub(crate) fn deal(
     }
 }
 
-/// How many seats a count of these sizes has.
+/// Returns how many seats a count of these sizes has.
 fn seat_count(sizes: &RowSizes) -> u32
     ensures { result ≡ sizes.now.waiters + sizes.now.notifiers }
 {
     u32::from(sizes.waiters) + u32::from(sizes.notifiers)
 }
 
-/// An empty list with room for all seats.
+/// Returns an empty list with room for all seats.
 pub(crate) fn room_for_seats<A: Allocator + Clone>(
     alloc: &A,
     sizes: &RowSizes,
@@ -73,7 +74,8 @@ pub(crate) fn room_for_seats<A: Allocator + Clone>(
     Vec::with_capacity(alloc.clone()?, seat_count(sizes) as usize)
 }
 
-/// The seats of all the keeper's cards, by number, into an empty list that has room for them.
+/// Splits a seat off the keeper for each of its cards, by number, into an empty list that has room
+/// for them.
 pub(crate) fn deal_all<A: Allocator>(
     shared: &Shared<(), View, RowSizes, Law>,
     keeper: &mut atomic_table::Seat<(), View>,
@@ -96,7 +98,7 @@ pub(crate) fn deal_all<A: Allocator>(
     }
 }
 
-/// The words of a table in which nobody waits.
+/// Returns the words of a table in which nobody waits.
 pub(crate) fn opening_words<A: Allocator + Clone>(
     alloc: &A,
     sizes: &RowSizes,

@@ -1,4 +1,5 @@
-//! What the steps on a count's state word tell.
+//! The plays of the steps on the words of a count: what each tells the seat that makes it.
+//! `specs/Plays.antt` defines them.
 ghost use Rattle.event_count.specs.declared.view.Exchange.{Exchange};
 ghost use Rattle.event_count.specs.declared.view.Card.{Card};
 ghost use Rattle.event_count.specs.declared.view.View.{View};
@@ -8,13 +9,13 @@ use crate::view::View;
 use atomic_table::Play;
 use std::marker::PhantomData;
 
-/// What an exchange of the state word is to a seat, where the word is the looked one.
+/// What a seat gains by an exchange of the state word that found the looked word.
 pub trait Gains {
-    // Of its card before, the exchange, and its view after.
+    // The relation between the seat's card before, the exchange, and the seat's view after.
     ghost gain: { Card → Exchange → View → Type 0 };
 }
 
-/// The state word is exchanged, where it is the looked one.
+/// The play of an exchange of the state word, which succeeds if the state word is the looked word.
 pub struct Exchanges<G> {
     marker: PhantomData<G>,
 }
@@ -25,7 +26,7 @@ impl<G: Gains> Play<(), View> for Exchanges<G> {
     ghost then = { exchanges G.gain };
 }
 
-/// The word is loaded by a new seat.
+/// The play of a load of the state word by a new seat.
 pub struct Arrives;
 
 impl Play<(), View> for Arrives {
@@ -34,7 +35,7 @@ impl Play<(), View> for Arrives {
     ghost then = { arrives };
 }
 
-/// The word is loaded.
+/// The play of a load of the state word.
 pub struct Looks<K> {
     marker: PhantomData<K>,
 }
@@ -45,7 +46,7 @@ impl<K: Kind> Play<(), View> for Looks<K> {
     ghost then = { looks K.rowed };
 }
 
-/// A seat becomes a pre-waiter.
+/// The play of a prewait: the seat becomes a pre-waiter.
 pub struct Prewaits;
 
 impl Play<(), View> for Prewaits {
@@ -54,7 +55,7 @@ impl Play<(), View> for Prewaits {
     ghost then = { prewaits };
 }
 
-/// A pre-waiter takes a signal.
+/// What an exchange gains by which a pre-waiter takes a signal.
 pub struct Consumes<K> {
     marker: PhantomData<K>,
 }
@@ -65,7 +66,7 @@ impl<K: Kind> Gains for Consumes<K> {
     ghost gain = { consumes K.rowed };
 }
 
-/// A pre-waiter leaves.
+/// What an exchange gains by which a pre-waiter leaves.
 pub struct Cancels;
 
 impl Gains for Cancels {
@@ -74,7 +75,7 @@ impl Gains for Cancels {
     ghost gain = { cancels };
 }
 
-/// A pre-waiter gets a signal.
+/// What an exchange gains by which a pre-waiter gets a signal.
 pub struct Signals;
 
 impl Gains for Signals {
@@ -83,7 +84,7 @@ impl Gains for Signals {
     ghost gain = { signals };
 }
 
-/// The next word of the looked top is loaded.
+/// The play of a load of the looked top's next word.
 pub struct Reads;
 
 impl Play<(), View> for Reads {
@@ -92,7 +93,7 @@ impl Play<(), View> for Reads {
     ghost then = { reads };
 }
 
-/// The seat's own next word is stored.
+/// The play of a store of the seat's own next word.
 pub struct Stores;
 
 impl Play<(), View> for Stores {
@@ -101,7 +102,7 @@ impl Play<(), View> for Stores {
     ghost then = { stores };
 }
 
-/// A pre-waiter goes onto the stack.
+/// What an exchange gains by which a pre-waiter goes onto the stack.
 pub struct Pushes<K> {
     marker: PhantomData<K>,
 }
@@ -112,7 +113,7 @@ impl<K: Kind> Gains for Pushes<K> {
     ghost gain = { pushes K.rowed };
 }
 
-/// The top is popped.
+/// What an exchange gains that pops the top.
 pub struct Pops;
 
 impl Gains for Pops {
@@ -121,7 +122,7 @@ impl Gains for Pops {
     ghost gain = { pops };
 }
 
-/// The first seat owed gets its token.
+/// The play of an unpark: the first owed seat gets its token.
 pub struct Unparks;
 
 impl Play<(), View> for Unparks {
@@ -130,7 +131,7 @@ impl Play<(), View> for Unparks {
     ghost then = { unparks };
 }
 
-/// A seat takes its token.
+/// The play of a swap of the seat's own parker word, by which it takes its token.
 pub struct Wakes;
 
 impl Play<(), View> for Wakes {
@@ -139,7 +140,7 @@ impl Play<(), View> for Wakes {
     ghost then = { wakes };
 }
 
-/// The next word of the first seat owed is loaded.
+/// The play of a load of the first owed seat's next word.
 pub struct Follows;
 
 impl Play<(), View> for Follows {
@@ -148,7 +149,7 @@ impl Play<(), View> for Follows {
     ghost then = { follows };
 }
 
-/// The stack is taken.
+/// What an exchange gains that takes the whole stack.
 pub struct TakesAll;
 
 impl Gains for TakesAll {

@@ -1,4 +1,5 @@
-//! The event count with rows of jobs and a stop word: how it is made and closed.
+//! `RowCount`: how an event count with rows of jobs and a stop word is made and closed. What holds
+//! at its end is in `specs/Rows/Ending.antt`.
 ghost use Rattle.std.specs.Prelude.{◌≡◌, ◌+◌, ◌<◌, ◌≤◌, ◌↔◌, map, All, vec_len, IfOk, IsErrOf};
 ghost use Rattle.event_word.specs.Step.{row_limit};
 ghost use Rattle.event_count.specs.Limits.{most_waiters, epoch_limit};
@@ -12,7 +13,7 @@ use crate::rule::{MOST_CREDITS, MOST_WAITERS, RowSizes};
 use crate::seat::Seat;
 use std::alloc::Allocator;
 
-/// The credits of all seats together.
+/// Returns the number of the credits of all seats together.
 fn all_credits(sizes: &RowSizes) -> u64
     ensures { result ≡ credits_for sizes.now }
 {
@@ -25,8 +26,9 @@ impl<A: Allocator> Count<Rowed, A> {
     ghost use Rattle.event_count.specs.Rows.Seats.{IsSilent};
     ghost use Rattle.event_count.specs.Rows.Ending.{EndsRows};
 
-    /// A count of these sizes, and its seats by number: the waiters' first, and then the
-    /// notifiers'. Each begins with its credits.
+    /// Returns a count of these sizes and its seats, by number: the waiters first, then the
+    /// notifiers. Each seat begins with its credits. Too many waiters are reported before too many
+    /// credits, and both before an allocation fails.
     pub fn new(alloc: A, sizes: &RowSizes) -> Result<(RowCount<A>, Vec<Seat, A>), RowFault>
     where
         A: Clone,
@@ -57,8 +59,9 @@ impl<A: Allocator> Count<Rowed, A> {
         Ok(made)
     }
 
-    /// The last word, which nobody waits in. What the seats have done is one history, as of a count
-    /// alone. Who has all credits back knows that all rows are empty.
+    /// Closes the count, given all its seats, and returns the last state word, in which nobody
+    /// waits. What the seats did is one history, as for a count alone. A caller that has all
+    /// credits back knows that all rows are empty.
     pub fn close<B: Allocator>(self, mut seats: Vec<Seat, B>) -> u64
         requires ours { All (IsSeatOf self) seats.items }
         requires all { vec_len seats ≡ seats_of self }
@@ -69,7 +72,7 @@ impl<A: Allocator> Count<Rowed, A> {
         self.close_with(&mut seats)
     }
 
-    /// How many lines there are for waiters and rows.
+    /// Returns how many lines of words the waiters and rows have together.
     pub(crate) fn lines(&self) -> usize
         ensures sum { result ≡ (row_sizes_of self.now).waiters + (row_sizes_of self.now).rows }
         ensures few { result ≤ 131070 }

@@ -1,5 +1,5 @@
-//! The calls that only a count with rows has: publish and take, look at rows and at the stop word,
-//! and move credits into the bank and out of it.
+//! The calls that only a count with rows has: they publish and take jobs, look at rows and at the
+//! stop word, and move credits through the bank. waking_rows calls them.
 
 mod banking;
 mod passing;

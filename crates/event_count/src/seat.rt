@@ -1,4 +1,5 @@
-//! The right to use a count.
+//! `Seat`: the right to use a count. Its fields repeat parts of the seat's card (`view.rt`), and
+//! its ghost fields say so; a new field of either belongs in both.
 ghost use Rattle.std.specs.Prelude.{◌≡◌, ◌≢◌, ◌+◌, ◌<◌, ◌≤◌, ◌↔◌, [], false, Some, None};
 ghost use Rattle.std.specs.Prelude.{IsSome, IsTrue};
 ghost use Rattle.std.specs.Option.{ForSome};
@@ -14,27 +15,27 @@ ghost use Rattle.event_count.specs.Gains.{first_of, behind, Fits, IsHeard};
 use crate::view::View;
 use event_word::Phase;
 
-/// One actor at an event count, for one thread at a time. It may cross threads.
+/// One actor at an event count, for one thread at a time. A seat may move between threads.
 ///
-/// Once a seat was dropped its count can't be closed any more.
+/// A count can't be closed once one of its seats was dropped.
 #[derive(Drop)]
 pub struct Seat {
     pub(crate) seat: atomic_table::Seat<(), View>,
     pub(crate) number: u32,
-    // How many seats of its count may wait.
+    // How many seats of the count may wait.
     pub(crate) waiters: u16,
     pub(crate) phase: Phase,
-    // The first seat that it owes an unpark.
+    // The first seat to which this seat owes an unpark.
     pub(crate) owed: Option<u16>,
-    // Whether those behind that one are found by next words. Else there are none.
+    // Whether next words link further owed seats to the first. If not, there are none.
     pub(crate) linked: bool,
-    // The epoch of its next push.
+    // The epoch of the seat's next push.
     pub(crate) epoch: u32,
-    // How many more jobs it may publish.
+    // How many more jobs the seat may publish.
     pub(crate) credits: u32,
-    // The word of its last look, until a step uses it up.
+    // The word of the seat's last look, until a step uses it up.
     pub(crate) looked: Option<u64>,
-    // The next word of that word's top, where there is one.
+    // The next word of the looked word's top, if there is a top.
     pub(crate) next: Option<u64>,
     ghost alone: { seat.me.0 ≡ only (card_in seat.me.0) },
     ghost none_held: { seat.me.1 ≡ [] },
@@ -61,14 +62,14 @@ pub struct Seat {
 impl Seat {
     ghost use Rattle.event_count.specs.Seats.{card_of, looked_of};
 
-    /// Its number: the waiters' from 0 on, and then the notifiers'.
+    /// Returns the seat's number. The waiters are numbered from 0 on, and the notifiers after them.
     pub fn number(&self) -> u32
         ensures { result ≡ (card_of self.now).number }
     {
         self.number
     }
 
-    /// Where it stands in its waiting. A notifier always runs.
+    /// Returns the seat's phase. A notifier always runs.
     pub fn phase(&self) -> Phase
         ensures phase { result ≡ (card_of self.now).phase }
         ensures never_ended { result ≢ Ended }
@@ -76,28 +77,28 @@ impl Seat {
         self.phase
     }
 
-    /// Whether it owes a seat its unpark.
+    /// Returns whether the seat owes another seat an unpark.
     pub fn owing(&self) -> bool
         ensures { IsTrue result ↔ ((card_of self.now).owing ≢ []) }
     {
         self.owed.is_some()
     }
 
-    /// Whether it has looked, and not used the look up.
+    /// Returns whether the seat has looked, and not used the look up.
     pub fn looked(&self) -> bool
         ensures { IsTrue result ↔ IsSome (looked_of self.now) }
     {
         self.looked.is_some()
     }
 
-    /// How many more jobs it may publish, at a count with rows.
+    /// Returns how many more jobs the seat may publish, at a count with rows.
     pub fn credits(&self) -> u32
         ensures { result ≡ (card_of self.now).credits }
     {
         self.credits
     }
 
-    /// The looked word, which is used up.
+    /// Returns the looked word, and uses the look up.
     pub(crate) fn take_look(&mut self) -> u64
         requires { IsSome (looked_of self.old) }
         ensures looked { looked_of self.old ≡ Some result }

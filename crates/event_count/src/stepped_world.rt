@@ -1,4 +1,5 @@
-//! What the lock of a count holds.
+//! `SteppedWorld`: what the lock of a `LockedCount` holds. Its invariant is `IsCountWorld`
+//! (`specs/LockedCount.antt`).
 ghost use Rattle.std.specs.Prelude.{◌≡◌, ◌<◌, ◌≤◌, length, IsTrue, IfOk};
 ghost use Rattle.event_word.specs.Fields.{fields_of};
 ghost use Rattle.event_word.specs.Play.{IsStep};
@@ -13,8 +14,8 @@ use crate::rule::Sizes;
 use event_word::{Event, Fields, NOBODY, Phase, World, pack};
 use std::alloc::{AllocError, Allocator, Global};
 
-/// The World of a count, and the seats that it was made with. Steps alone change it, so that it
-/// stays a lawful World of these seats.
+/// The World of a count, and the sizes with which the count was made. Only steps change the World,
+/// so it stays a lawful World of these sizes.
 #[derive(Drop)]
 pub(crate) struct SteppedWorld<A: Allocator = Global> {
     world: World<A>,
@@ -23,7 +24,7 @@ pub(crate) struct SteppedWorld<A: Allocator = Global> {
 }
 
 impl<A: Allocator> SteppedWorld<A> {
-    /// All waiters run.
+    /// Returns a World in which all waiters run, or an error if an allocation fails.
     pub(crate) fn new(alloc: A, sizes: Sizes) -> Result<SteppedWorld<A>, AllocError>
     where
         A: Clone,
@@ -36,7 +37,7 @@ impl<A: Allocator> SteppedWorld<A> {
         Ok(SteppedWorld { world, sizes })
     }
 
-    /// Takes a step. False: the event isn't possible now, and nothing changed.
+    /// Takes the event. Returns false if the event isn't possible now; then nothing changes.
     pub(crate) fn step(&mut self, event: Event) -> bool
         ensures step { IsStep self.old.world event result self.new.world }
         ensures sizes { self.new.sizes ≡ self.old.sizes }
@@ -44,7 +45,7 @@ impl<A: Allocator> SteppedWorld<A> {
         self.world.step(event)
     }
 
-    /// The pass of the flag, and then the commit.
+    /// Passes the flag, and then commits the seat.
     pub(crate) fn commit(&mut self, seat: u16) -> CommitIn
         ensures commit { IsCommitIn self.old.world seat result self.new.world }
         ensures sizes { self.new.sizes ≡ self.old.sizes }
@@ -59,7 +60,8 @@ impl<A: Allocator> SteppedWorld<A> {
         }
     }
 
-    /// False: one of the two steps was not possible.
+    /// Passes the flag, and then commits the seat. Returns false if one of the two events was not
+    /// possible.
     fn take_commit(&mut self, seat: u16) -> bool
         ensures steps { TakesSteps self.old.world (commit_of seat) result self.new.world }
         ensures known { IsTrue result → seat < length self.new.world.phases }
@@ -68,7 +70,7 @@ impl<A: Allocator> SteppedWorld<A> {
         self.step(Event::PassFlag { seat }) && self.step(Event::Commit { seat })
     }
 
-    /// A notification, and the unpark of the seat that it popped.
+    /// Notifies one waiter, and unparks the seat that the notification popped, if any.
     pub(crate) fn notify(&mut self, actor: u32)
         ensures world { Settles self.old.world (Event.Notify actor) self.new.world }
         ensures sizes { self.new.sizes ≡ self.old.sizes }
@@ -78,7 +80,7 @@ impl<A: Allocator> SteppedWorld<A> {
         }
     }
 
-    /// A notification of all, and the unparks of the seats that were on the stack.
+    /// Notifies all waiters, and unparks the seats that were on the stack.
     pub(crate) fn notify_all(&mut self, actor: u32)
         ensures world { Settles self.old.world (Event.NotifyAll actor) self.new.world }
         ensures sizes { self.new.sizes ≡ self.old.sizes }
@@ -96,7 +98,7 @@ impl<A: Allocator> SteppedWorld<A> {
         while self.step(Event::Unpark { actor }) {}
     }
 
-    /// The word that shows it, at epoch 0.
+    /// Returns the word that shows this World at epoch 0.
     pub(crate) fn word(&self) -> u64
         ensures { fields_of result ≡ shown self.now.world 0 }
     {

@@ -1,4 +1,5 @@
-//! Tickets and credits: what lies with a job, and the right to publish one.
+//! `Ticket`, which lies with a job, and `Credit`, the right to publish a job. The rule counts both
+//! (`specs/Tickets.antt`).
 ghost use Rattle.std.specs.Prelude.{◌≡◌, ◌≤◌, [], ◌∷◌};
 ghost use Rattle.event_count.specs.Places.{words_for};
 ghost use Rattle.event_count.specs.Tickets.{ticket, credit};
@@ -6,9 +7,10 @@ ghost use Rattle.event_count.specs.Tickets.{ticket, credit};
 use crate::view::View;
 use atomic_table::Badge;
 
-/// One of the jobs that a row's length counts. It may cross threads, and lies with its job.
+/// A token for one of the jobs that a row's length counts. It lies with its job, and may move
+/// between threads.
 ///
-/// Once a ticket was dropped its row's length never comes to 0 again.
+/// The length of a row never becomes 0 again once one of its tickets was dropped.
 #[derive(Drop)]
 pub struct Ticket {
     pub(crate) badge: Badge<View>,
@@ -20,7 +22,7 @@ pub struct Ticket {
 impl Ticket {
     ghost use Rattle.event_count.specs.Rows.Seats.{row_of};
 
-    /// The row of its job.
+    /// Returns the row of the ticket's job.
     pub fn row(&self) -> u16
         ensures { result ≡ row_of self.now }
     {
@@ -30,7 +32,7 @@ impl Ticket {
 
 /// The right to publish one job, on its way from one seat to another. It has no bytes.
 ///
-/// Once it was dropped all seats together may publish one job fewer.
+/// All seats together may publish one job fewer once a credit was dropped.
 #[derive(Drop)]
 pub struct Credit {
     pub(crate) badge: Badge<View>,

@@ -1,4 +1,5 @@
-//! The tries: each makes at most one exchange of the state word, against the word of a look.
+//! The tries: each makes at most one exchange of the state word, which expects the word of a look.
+//! `specs/Tries.antt` states the answers. The waiting calls (`waits.rt`) repeat tries.
 ghost use Rattle.std.specs.Prelude.{◌≡◌, ◌<◌, [], None, IfSome, IsSome};
 ghost use Rattle.event_word.specs.declared.phase.Phase.TheVariants.{Running, Pre};
 
@@ -21,8 +22,9 @@ impl<K: Kind, A: Allocator> Count<K, A> {
     ghost use Rattle.event_count.specs.Tries.{IsTryCommit, IsTryCancel, EndsAnnouncement};
     ghost use Rattle.event_count.specs.Tries.{IsTryNotify, IsTryNotifyAll, EndsAnnouncementAll};
 
-    /// The seat becomes a pre-waiter: from now on it is notified. It then checks its condition, and
-    /// commits or cancels. At a count with rows it looks at the stop word and at each row.
+    /// Makes the seat a pre-waiter: from now on notifications count it. Afterwards the caller
+    /// checks its condition, and commits or cancels. At a count with rows the condition is the stop
+    /// word and each row: `pass_all` checks it.
     pub fn prewait(&self, seat: &mut Seat)
         requires of { IsSeatOf self.now seat.old }
         requires silent { MayPrewait K.rowed (card_of seat.old) }
@@ -40,9 +42,10 @@ impl<K: Kind, A: Allocator> Count<K, A> {
         seat.looked = None;
     }
 
-    /// A pre-waiter that has looked takes a signal, or goes onto the stack where there is none. It
-    /// is then to sleep until it takes its token. Where its epochs are used up, it cancels. At a
-    /// count with rows it has passed the flag and all rows, and then looked.
+    /// Tries to commit a pre-waiter that has looked. The seat takes a signal, or goes onto the
+    /// stack if there is none. A seat on the stack then has to sleep until it takes its token. A
+    /// seat that has used all its epochs cancels. At a count with rows the seat has passed the flag
+    /// and all rows before it looked.
     pub fn try_commit(&self, seat: &mut Seat) -> TryCommit
         requires of { IsSeatOf self.now seat.old }
         requires passed { MayCommit K.rowed (row_sizes_of self.now) (card_of seat.old) }
@@ -57,7 +60,7 @@ impl<K: Kind, A: Allocator> Count<K, A> {
         self.commit_at(seat, word)
     }
 
-    /// The same against a loaded word.
+    /// Does what `try_commit` does, for a word that was loaded.
     pub(crate) fn commit_at(&self, seat: &mut Seat, word: u64) -> TryCommit
         requires of { IsSeatOf self.now seat.old }
         requires passed { MayCommit K.rowed (row_sizes_of self.now) (card_of seat.old) }
@@ -97,7 +100,7 @@ impl<K: Kind, A: Allocator> Count<K, A> {
         }
     }
 
-    /// A pre-waiter that has looked gives up waiting.
+    /// Tries to cancel a pre-waiter that has looked: it gives up waiting.
     pub fn try_cancel(&self, seat: &mut Seat) -> TryCancel
         requires of { IsSeatOf self.now seat.old }
         requires pre { (card_of seat.old).phase ≡ Pre }
@@ -111,7 +114,7 @@ impl<K: Kind, A: Allocator> Count<K, A> {
         self.cancel_at(seat, word)
     }
 
-    /// The same against a loaded word.
+    /// Does what `try_cancel` does, for a word that was loaded.
     pub(crate) fn cancel_at(&self, seat: &mut Seat, word: u64) -> TryCancel
         requires of { IsSeatOf self.now seat.old }
         requires pre { (card_of seat.old).phase ≡ Pre }
@@ -128,10 +131,11 @@ impl<K: Kind, A: Allocator> Count<K, A> {
         }
     }
 
-    /// A seat that runs and has looked notifies one: it gives a pre-waiter that has no signal one,
-    /// or else pops the top of the stack, and then owes that seat an unpark.
+    /// Tries to notify one waiter. The seat runs, and has looked. It gives a signal to a pre-waiter
+    /// without one. If there is none, it pops the top of the stack, and then owes that seat an
+    /// unpark.
     ///
-    /// `Nothing` speaks of the moment of the look, so look after the condition was made true.
+    /// `Nothing` is true at the moment of the look, so look after the condition was made true.
     pub fn try_notify(&self, seat: &mut Seat) -> TryNotify
         requires of { IsSeatOf self.now seat.old }
         requires running { (card_of seat.old).phase ≡ Running }
@@ -166,8 +170,9 @@ impl<K: Kind, A: Allocator> Count<K, A> {
         }
     }
 
-    /// A seat that runs and has looked notifies all: each pre-waiter has a signal then, and the
-    /// stack is taken, whose seats are owed an unpark each, the top first.
+    /// Tries to notify all waiters. The seat runs, and has looked. It gives each pre-waiter a
+    /// signal and takes the whole stack. Then it owes each seat of the stack an unpark, the top
+    /// first.
     pub fn try_notify_all(&self, seat: &mut Seat) -> TryNotifyAll
         requires of { IsSeatOf self.now seat.old }
         requires running { (card_of seat.old).phase ≡ Running }
@@ -183,7 +188,7 @@ impl<K: Kind, A: Allocator> Count<K, A> {
         self.notify_all_at(seat, word)
     }
 
-    /// The same against a loaded word.
+    /// Does what `try_notify_all` does, for a word that was loaded.
     pub(crate) fn notify_all_at(&self, seat: &mut Seat, word: u64) -> TryNotifyAll
         requires of { IsSeatOf self.now seat.old }
         requires running { (card_of seat.old).phase ≡ Running }

@@ -1,4 +1,4 @@
-//! Unparks and tokens.
+//! Unparks: how a notifier gives an owed seat its token, and how that seat takes it.
 ghost use Rattle.std.specs.Prelude.{◌≡◌, ◌<◌, ◌↔◌, [], true, Some, None, IfNone, MatchBool};
 ghost use Rattle.std.specs.Option.{ForSome};
 ghost use Rattle.event_word.specs.declared.phase.Phase.TheVariants.{Stacked};
@@ -16,13 +16,14 @@ impl<K: Kind, A: Allocator> Count<K, A> {
     ghost use Rattle.event_count.specs.Gains.{polling, unparking, waking};
     ghost use Rattle.event_count.specs.Seats.{card_of, looked_of, IsSeatOf};
 
-    /// Unparks the first seat that this seat owes an unpark. None: it owes none.
+    /// Unparks the first seat to which this seat owes an unpark, and returns it. None if it owes
+    /// none.
     ///
-    /// It is one store in the seat's parker word, which gives it its token, and one call of the
-    /// system (some 140 ns), which wakes its thread if it sleeps there. The word says only whether
-    /// there is a token, so it can't tell that nobody sleeps. Where more seats may be owed, one
-    /// load before the store finds the next of them: once the seat has its token it may run, and
-    /// store another next word.
+    /// An unpark is one store in the owed seat's parker word, which gives it its token, and one
+    /// system call, which wakes its thread if it sleeps there. The call is always made, because the
+    /// word says only whether there is a token, and not whether anybody sleeps. If more seats may
+    /// be owed, a load before the store finds the next of them: once the owed seat has its token,
+    /// it may run and store another next word.
     pub fn try_unpark_next(&self, seat: &mut Seat) -> Option<u16>
         requires of { IsSeatOf self.now seat.old }
         ensures of { IsSeatOf self.now seat.new }
@@ -45,7 +46,7 @@ impl<K: Kind, A: Allocator> Count<K, A> {
         Some(other)
     }
 
-    /// The seat behind the first one owed.
+    /// Returns the owed seat behind the first one, if any.
     fn load_after(&self, seat: &mut Seat, other: u16) -> Option<u16>
         requires of { IsSeatOf self.now seat.old }
         requires used { looked_of seat.old ≡ None }
@@ -65,7 +66,7 @@ impl<K: Kind, A: Allocator> Count<K, A> {
         }
     }
 
-    /// The first seat owed gets its token, where this one is behind it.
+    /// Gives the first owed seat its token. `after` is the owed seat behind it.
     fn unpark(&self, seat: &mut Seat, other: u16, after: Option<u16>)
         requires of { IsSeatOf self.now seat.old }
         requires used { looked_of seat.old ≡ None }
@@ -82,7 +83,7 @@ impl<K: Kind, A: Allocator> Count<K, A> {
         seat.owed = after;
     }
 
-    /// A stacked seat takes its token, where it was unparked.
+    /// Takes the stacked seat's token. Returns false if it has not been unparked.
     pub fn try_take_token(&self, seat: &mut Seat) -> bool
         requires of { IsSeatOf self.now seat.old }
         requires stacked { (card_of seat.old).phase ≡ Stacked }

@@ -1,4 +1,5 @@
-//! What a pool waits on.
+//! `WaitPoint`: the trait of what the workers of a pool wait on. `EventCount` implements it here,
+//! `LockedCount` in its own module, and `RowPoint` in waking_rows. worker_pool calls it.
 ghost use Rattle.std.specs.Prelude.{◌≡◌, ℕ, ◌+◌, ◌<◌, ◌↔◌, List, [], length, map, All};
 ghost use Rattle.std.specs.Prelude.{IfOk, IsErrOf, vec_len};
 ghost use Rattle.std.specs.List.{range_with_len};
@@ -15,13 +16,16 @@ use event_word::Phase;
 use std::alloc::Allocator;
 use std::sync::Wait;
 
-/// A point at which threads wait for a condition that others make true, each by a seat of its own.
+/// A point at which threads wait for a condition that others make true. Each thread has a seat of
+/// its own.
 ///
 /// A waiter enters, checks its condition, and then sleeps or leaves. A notifier makes the condition
-/// true, and then wakes one or all. The seats of the lowest numbers may wait, and all may wake.
+/// true, and then wakes one waiter or all. The seats with the lowest numbers may wait, and all
+/// seats may wake.
 ///
-/// `EventCount` is one without a lock, and `LockedCount` the plain one, behind a lock.
+/// `EventCount` is a point without a lock, and `LockedCount` a point behind a lock.
 pub trait WaitPoint<A: Allocator>: Sized + Drop {
+    /// A thread's right to use the point.
     type Seat: Drop;
 
     // How many seats may wait, and how many seats there are.
@@ -29,24 +33,24 @@ pub trait WaitPoint<A: Allocator>: Sized + Drop {
 
     ghost seat_count: { Self → ℕ };
 
-    // What tells this point from others, and the point that a seat was made with.
+    // What distinguishes this point from others, and the point with which a seat was made.
     ghost Identity: { Type 0 };
 
     ghost identity_of: { Self → Identity };
 
     ghost point_of: { Self.Seat → Identity };
 
-    // A seat's number, from 0 on, where it stands in its waiting, and the seats that it is to wake.
+    // A seat's number, from 0 on, its phase, and the seats that it has to wake.
     ghost number_of: { Self.Seat → ℕ };
 
     ghost phase_of: { Self.Seat → Phase };
 
     ghost owing_of: { Self.Seat → List ℕ };
 
-    // Which words the last one may be.
+    // Which words `shut` may return.
     ghost is_last: { ℕ → Type 0 };
 
-    /// A point and its seats, by number: the waiters' first, and then the notifiers'.
+    /// Returns a point and its seats, by number: the waiters first, then the notifiers.
     fn open(
         alloc: A,
         waiters: u16,
@@ -64,7 +68,7 @@ pub trait WaitPoint<A: Allocator>: Sized + Drop {
         ensures ours { IfOk result (λ made.
             All (λ s. point_of s ≡ identity_of made.0) made.1.items) };
 
-    /// The seat is about to wait: from now on it is woken.
+    /// Says that the seat is about to wait: from now on it is woken.
     fn enter<R: Wait>(&self, rt: &R, seat: &mut Self::Seat)
         requires ours { point_of seat.old ≡ identity_of self.now }
         requires waiter { number_of seat.old < waiter_count self.now }
@@ -75,7 +79,8 @@ pub trait WaitPoint<A: Allocator>: Sized + Drop {
         ensures pre { phase_of seat.new ≡ Pre }
         ensures owes_none { owing_of seat.new ≡ [] };
 
-    /// Waits until the seat is woken. `Spent`: it can't sleep any more, and was not woken.
+    /// Waits until the seat is woken. `Spent` means that the seat can't sleep any more, and was not
+    /// woken.
     fn sleep<R: Wait>(&self, rt: &R, seat: &mut Self::Seat) -> Committed
         requires ours { point_of seat.old ≡ identity_of self.now }
         requires pre { phase_of seat.old ≡ Pre }
@@ -84,7 +89,7 @@ pub trait WaitPoint<A: Allocator>: Sized + Drop {
         ensures running { phase_of seat.new ≡ Running }
         ensures owing { owing_of seat.new ≡ owing_of seat.old };
 
-    /// Gives up waiting.
+    /// Says that the seat gives up waiting.
     fn leave<R: Wait>(&self, rt: &R, seat: &mut Self::Seat)
         requires ours { point_of seat.old ≡ identity_of self.now }
         requires pre { phase_of seat.old ≡ Pre }
@@ -93,7 +98,7 @@ pub trait WaitPoint<A: Allocator>: Sized + Drop {
         ensures running { phase_of seat.new ≡ Running }
         ensures owing { owing_of seat.new ≡ owing_of seat.old };
 
-    /// Wakes one of those that wait, if there is one.
+    /// Wakes one waiter, if any waits.
     fn wake_one<R: Wait>(&self, rt: &R, seat: &mut Self::Seat)
         requires ours { point_of seat.old ≡ identity_of self.now }
         requires running { phase_of seat.old ≡ Running }
@@ -103,7 +108,7 @@ pub trait WaitPoint<A: Allocator>: Sized + Drop {
         ensures running { phase_of seat.new ≡ Running }
         ensures owes_none { owing_of seat.new ≡ [] };
 
-    /// Wakes all that wait.
+    /// Wakes all waiters.
     fn wake_all<R: Wait>(&self, rt: &R, seat: &mut Self::Seat)
         requires ours { point_of seat.old ≡ identity_of self.now }
         requires running { phase_of seat.old ≡ Running }
@@ -113,7 +118,8 @@ pub trait WaitPoint<A: Allocator>: Sized + Drop {
         ensures running { phase_of seat.new ≡ Running }
         ensures owes_none { owing_of seat.new ≡ [] };
 
-    /// What `shut` does, for an impl to write. It may take the seats out of the list.
+    /// Does what `shut` does. Each implementation writes this method; callers call `shut`. It may
+    /// take the seats out of the list.
     fn shut_with(self, seats: &mut Vec<Self::Seat, A>) -> u64
         requires ours { All (λ s. point_of s ≡ identity_of self) seats.old.items }
         requires all { length seats.old.items ≡ seat_count self }
@@ -121,7 +127,7 @@ pub trait WaitPoint<A: Allocator>: Sized + Drop {
         requires owe_none { All (λ s. owing_of s ≡ []) seats.old.items }
         ensures { is_last result };
 
-    /// Ends the point, given all its seats, and answers the last word.
+    /// Ends the point, given all its seats, and returns the last state word.
     final fn shut(self, mut seats: Vec<Self::Seat, A>) -> u64
         requires ours { All (λ s. point_of s ≡ identity_of self) seats.items }
         requires all { length seats.items ≡ seat_count self }
@@ -133,7 +139,7 @@ pub trait WaitPoint<A: Allocator>: Sized + Drop {
     }
 }
 
-// Each call is the count's own, and says of the seat what that one does.
+// Each call is a call of the count, and promises for the seat what that call promises.
 impl<A: Allocator + Clone> WaitPoint<A> for EventCount<A> {
     ghost use Rattle.event_count.specs.Cards.{fresh_cards};
     ghost use Rattle.event_count.specs.Counts.{Ends};

@@ -1,5 +1,6 @@
 //! The calls that may wait: each looks and tries until no other step comes between the two. Only a
-//! notification may pop, and so it alone looks at the top's next word too.
+//! notification may pop, so only a notification looks at the top's next word, too.
+//! `specs/Waits.antt` states what the calls promise.
 ghost use Rattle.std.specs.Prelude.{◌≡◌, ℕ, [], false, None, IsTrue, IsFalse};
 ghost use Rattle.event_word.specs.declared.phase.Phase.TheVariants.{Running, Pre, Stacked};
 ghost use Rattle.event_count.specs.declared.view.Card.{Card};
@@ -21,9 +22,9 @@ impl<K: Kind, A: Allocator> Count<K, A> {
     ghost use Rattle.event_count.specs.Waits.{RestsOnNotifyAll, Sleeps};
     ghost use Rattle.event_count.specs.Waits.{IsLater};
 
-    /// A pre-waiter takes a signal, or where there is none goes onto the stack and sleeps until it
-    /// is unparked. Where its epochs are used up, it cancels. At a count with rows it has passed
-    /// the flag and all rows.
+    /// Commits a pre-waiter. It takes a signal if there is one; otherwise it goes onto the stack
+    /// and sleeps until it is unparked. A seat that has used all its epochs cancels. At a count
+    /// with rows the seat has passed the flag and all rows.
     pub fn commit<R: Wait>(&self, rt: &R, seat: &mut Seat) -> Committed
         requires of { IsSeatOf self.now seat.old }
         requires passed { MayCommit K.rowed (row_sizes_of self.now) (card_of seat.old) }
@@ -53,7 +54,7 @@ impl<K: Kind, A: Allocator> Count<K, A> {
         unreachable!()
     }
 
-    /// A stacked seat sleeps until it has taken its token.
+    /// Puts a stacked seat to sleep until it has taken its token.
     fn take_token<R: Wait>(&self, rt: &R, seat: &mut Seat)
         requires of { IsSeatOf self.now seat.old }
         requires stacked { (card_of seat.old).phase ≡ Stacked }
@@ -70,8 +71,8 @@ impl<K: Kind, A: Allocator> Count<K, A> {
         }
     }
 
-    /// One round of a cancel: a load of the state word, and a try against it. It answers whether the
-    /// seat has cancelled. False: the try was contended.
+    /// Makes one round of a cancel: loads the state word, and tries to cancel. Returns whether the
+    /// seat has cancelled; false means that the try was contended.
     #[inline(always)]
     pub(crate) fn cancel_once(&self, seat: &mut Seat) -> bool
         requires of { IsSeatOf self.now seat.old }
@@ -92,7 +93,7 @@ impl<K: Kind, A: Allocator> Count<K, A> {
         }
     }
 
-    /// A pre-waiter gives up waiting.
+    /// Cancels a pre-waiter: it gives up waiting.
     pub fn cancel<R: Wait>(&self, rt: &R, seat: &mut Seat)
         requires of { IsSeatOf self.now seat.old }
         requires pre { (card_of seat.old).phase ≡ Pre }
@@ -113,8 +114,8 @@ impl<K: Kind, A: Allocator> Count<K, A> {
         }
     }
 
-    /// One round of a notification: a look, a try against it, and the unpark of a seat that the try
-    /// popped. It answers whether the seat has notified. False: the try was contended.
+    /// Makes one round of a notification: looks, tries to notify, and unparks a seat that the try
+    /// popped. Returns whether the seat has notified; false means that the try was contended.
     #[inline(always)]
     pub(crate) fn notify_once(&self, seat: &mut Seat) -> bool
         requires of { IsSeatOf self.now seat.old }
@@ -141,13 +142,13 @@ impl<K: Kind, A: Allocator> Count<K, A> {
         }
     }
 
-    /// Notifies one waiter, where the word of a look that it makes has one to notify, and unparks
-    /// it if it was on the stack. The seat has notified then, whatever it had published.
+    /// Notifies one waiter, if the looked word has one to notify, and unparks it if it was on the
+    /// stack. Afterwards the seat isn't to notify, whatever it had published.
     ///
-    /// It needs no fence of its own, as Eigen's does: each step here is sequentially consistent,
-    /// the prewait and the load of this look among them. So if the condition was made true before
-    /// the look, by such a step or under a lock, either the waiter's check comes after it and finds
-    /// the condition true, or its prewait comes before the look, which counts it.
+    /// No fence is needed, unlike in Eigen: each step here is sequentially consistent, and so are
+    /// the prewait and the load of this look. Say that the condition was made true before the look,
+    /// by such a step or under a lock. Then either the waiter's check comes later and finds the
+    /// condition true, or its prewait comes before the look, which counts it.
     pub fn notify<R: Wait>(&self, rt: &R, seat: &mut Seat)
         requires of { IsSeatOf self.now seat.old }
         requires running { (card_of seat.old).phase ≡ Running }
@@ -169,8 +170,9 @@ impl<K: Kind, A: Allocator> Count<K, A> {
         }
     }
 
-    /// Notifies all waiters of the state word that it loads, and unparks those that were on the
-    /// stack, the top first. The seat has notified then, whatever it had published, or stopped.
+    /// Notifies all waiters that the loaded state word has, and unparks those that were on the
+    /// stack, the top first. Afterwards the seat isn't to notify, whether it had published or
+    /// stopped.
     pub fn notify_all<R: Wait>(&self, rt: &R, seat: &mut Seat)
         requires of { IsSeatOf self.now seat.old }
         requires running { (card_of seat.old).phase ≡ Running }
@@ -198,7 +200,7 @@ impl<K: Kind, A: Allocator> Count<K, A> {
         }
     }
 
-    /// Unparks all seats that are owed.
+    /// Unparks all seats that the seat owes.
     fn unpark_all<R: Wait>(&self, rt: &R, seat: &mut Seat)
         requires of { IsSeatOf self.now seat.old }
         ensures of { IsSeatOf self.now seat.new }

@@ -1,4 +1,4 @@
--- Who is absent stays idle, and so is no support for any row.
+-- An absent actor stays idle, and so is no support for any row.
 use Rattle.std.proofs.Common.{◌≡◌, ◌≢◌, ℕ, suc, ◌+◌, ◌<◌, Bool, true, false, List, [], ◌∷◌, length}
 use Rattle.std.proofs.Common.{sym, ap, refl, ◌∙◌, subst, arith}
 use Rattle.std.specs.List.{AllPass}
@@ -26,7 +26,7 @@ pub record IsIdle (w : World) (n : ℕ) : Type 0 where
   pub silent : is_announcing w n ≡ false
   pub free : owed_by w n ≡ []
 
--- who is absent is idle
+-- an absent actor is idle
 abbrev pub AbsentIdle : (ℕ → Bool) → World → Type 0
 AbsentIdle is_present w = (n : ℕ) → is_present n ≡ false → IsIdle w n
 
@@ -70,7 +70,7 @@ absent_idle is_present workers notifiers rows history w q here =
     (λ n _. idle_opening workers notifiers rows n)
 
 module _ (is_present : ℕ → Bool) (w : World) (r : Lawful w) (i : AbsentIdle is_present w) where
-  -- who is not idle is present
+  -- an actor that is not idle is present
   pub present : (n : ℕ) → (IsIdle w n → ⊥) → is_present n ≡ true
   present n busy = by_flag (is_present n) refl
     where

@@ -30,7 +30,7 @@ pub total-replicate : {A : Type 0} (f : A → ℕ) (x : A) (n : ℕ) → f x ≡
 total-replicate f x zero e = refl
 total-replicate f x (suc n) e = let r = total-replicate f x n e in omega arith
 
--- of a list of one value, and past its end, each fact that is so of the value and of the default
+-- in a list that repeats one value, each fact about the value and the default holds at every place
 pub get_or-replicate_either : {A : Type 0} (P : A → Type 0) (x d : A) (n i : ℕ) → P x → P d
     → P (get_or (replicate n x) i d)
 get_or-replicate_either P x d zero i p q = q

@@ -48,7 +48,7 @@ counts_set phases n p f g t h here others all =
     each-set phases n p Ended (λ m ph. f m ≡ t ph) (λ m ph. g m ≡ t ph) h here
     (λ m ne e. others m ne ∙ e) all
 
--- who has to run, where one phase changes
+-- a seat that has to run, where one phase changes
 runs_set : (phases : List Phase) (n : ℕ) (p : Phase) (P : ℕ → Type 0) → n < length phases
     → (P n → p ≡ Running)
     → ((m : ℕ) → m < length phases → P m → get_or phases m Ended ≡ Running) → (m : ℕ)
@@ -93,7 +93,7 @@ module _ (w : World) (r : Lawful w) where
   pub is_waiting : (n : ℕ) → phase_of w n ≡ Pre → times n w.pre ≡ 1
   is_waiting n e = r.waiting n ∙ ap waits e
 
-  -- what is so of the actor and of each other worker is so of each
+  -- a fact about the actor and about each other worker is one about every worker
   by_actor : (actor n : ℕ) (b : Bool) → (actor < length w.phases → phase_of w actor ≡ Running)
       → n < length w.phases → get_or (set w.announcing actor b) n false ≡ true
       → phase_of w n ≡ Running
@@ -263,7 +263,7 @@ module _ (w : World) (r : Lawful w) where
     stopped = λ two. let d = still_drained two in record { stack = d.0; signals = d.1 };
   }
 
-  -- who owes has to run, where the list of one actor that runs changes
+  -- an actor that owes has to run, where the list of one actor that runs changes
   owing_set : (actor : ℕ) (seats : List ℕ)
       → (0 < length seats → actor < length w.phases → phase_of w actor ≡ Running)
       → (n : ℕ) → n < length w.phases → 0 < length (get_or (set w.owed actor seats) n [])

@@ -118,7 +118,7 @@ seats_owed-none a [] d none = refl
 seats_owed-none a (x ∷ xs) d none = seats_owed-other a x xs (none 0 (omega arith))
     ∙ seats_owed-none a xs d (λ k lt. none (suc k) (omega arith))
 
--- who owes nothing is found nowhere
+-- an actor that owes nothing is found nowhere
 pub nowhere-seats_owed : (a : ℕ) (ds : List Debt) (i : ℕ) (d : Debt) → i < length ds
     → ((get_or ds i d).actor == a) ≡ true → seats_owed a ds ≡ [] → ⊥
 nowhere-seats_owed a [] i d h at none = omega arith

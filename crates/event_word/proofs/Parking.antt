@@ -1,4 +1,4 @@
--- Where all who are present are parked and nobody is to notify, no row has support; and the wake
+-- Where all present actors are parked and nobody is to notify, no row has support; and the wake
 -- laws that follow.
 use Rattle.std.proofs.Common.{◌≡◌, ◌≢◌, ℕ, ◌+◌, ◌≤◌, ◌<◌, Bool, true, List, [], ◌∷◌, length, get_or}
 use Rattle.std.proofs.Common.{inl, inr, sym, ap, refl, ◌∙◌, ⊎_elim, arith}
@@ -20,7 +20,7 @@ use Rattle.event_word.proofs.Absent.{AbsentIdle, absent_idle, present, by_presen
 
 module _ (is_present : ℕ → Bool) (w : World) (r : Lawful w) (i : AbsentIdle is_present w)
     (parked : PresentParked is_present w) (silent : AllSilent w) where
-  -- who is present sleeps, on the stack and nowhere else
+  -- a present worker sleeps, on the stack and nowhere else
   sleeps_there : (n : ℕ) → n < length w.phases → is_present n ≡ true
       → (0 < times n w.stack) × (sleeps (phase_of w n) ≤ 1)
   sleeps_there n h here =
@@ -95,7 +95,7 @@ stay_awake_by_present workers notifiers rows is_present worker history w some he
           (cases_lt 0 (length_of w row));
     }
 
--- the same where everybody is present
+-- the law where everybody is present
 pub stay_awake : RunsStayAwake
 stay_awake workers notifiers rows history w some q =
     let k = stay_awake_by_present workers notifiers rows (λ _. true) 0 history w some refl

@@ -13,7 +13,7 @@ fields_of word =
     fields (word % 2 ^ 14) (word / 2 ^ 14 % 2 ^ 14) (word / 2 ^ 28 % 2 ^ 14)
     (word / 2 ^ 42 % 2 ^ 22)
 
--- the word that is made of the fields
+-- the word that packs the fields
 abbrev pub word_of : Fields → ℕ
 word_of f = f.top + 2 ^ 14 * f.pre + 2 ^ 28 * f.signals + 2 ^ 42 * f.epoch
 

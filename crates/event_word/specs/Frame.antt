@@ -1,4 +1,4 @@
--- What an event leaves alone.
+-- What an event leaves unchanged.
 use Rattle.std.specs.Prelude.{◌≡◌, ◌≢◌, ℕ, ◌+◌, true}
 use Rattle.event_word.specs.declared.event.Event.{Event}
 use Rattle.event_word.specs.Lists.{one_if, times}
@@ -7,7 +7,7 @@ use Rattle.event_word.specs.World.{is_announcing, has_token}
 use Rattle.event_word.specs.Step.{Possible, effect, actor_of}
 use Rattle.event_word.specs.Lawful.{Lawful, HasSizes}
 
--- all that is the number's own stays, though it may be given a token
+-- everything of this worker or notifier stays, but it may be given a token
 pub record LeavesAlone (w u : World) (number : ℕ) : Type 0 where
   pub phase : phase_of u number ≡ phase_of w number
   pub flag : has_passed_flag u number ≡ has_passed_flag w number
@@ -17,25 +17,25 @@ pub record LeavesAlone (w u : World) (number : ℕ) : Type 0 where
   pub announcing : is_announcing u number ≡ is_announcing w number
   pub token : has_token w number ≡ true → has_token u number ≡ true
 
--- how often the seat stands on the stack, among those that the actor owes, and among the tokens
+-- how often the seat stands on the stack, among the seats that the actor owes, and among the tokens
 abbrev pub stands_by : World → ℕ → ℕ → ℕ
 stands_by w actor seat =
     times seat w.stack + times seat (owed_by w actor) + one_if (has_token w seat)
 
--- the entries stay as many, and a number that does not act keeps what is its own
+-- the number of entries stays, and whoever does not act keeps everything of its own
 pub record Frames (w : World) (e : Event) : Type 0 where
   pub sizes : (workers actors rows : ℕ) → HasSizes workers actors rows w
       → HasSizes workers actors rows (effect w e)
   pub alone : (number : ℕ) → number ≢ actor_of e → LeavesAlone w (effect w e) number
 
--- in a lawful World a seat that does not act moves only from the stack to those that the actor
+-- in a lawful World, a seat that does not act moves only from the stack to the seats that the actor
 -- owes, and from there to the tokens
 abbrev pub KeepsPlaces : Type 0
 KeepsPlaces = (workers actors rows : ℕ) (w : World) (e : Event) → HasSizes workers actors rows w
     → Lawful w → Possible w e → (seat : ℕ) → seat ≢ actor_of e
     → stands_by (effect w e) (actor_of e) seat ≡ stands_by w (actor_of e) seat
 
--- what every event leaves alone
+-- what every event leaves unchanged
 pub record EventsLeaveAlone : Type 0 where
   pub frames : (w : World) (e : Event) → Frames w e
   pub places : KeepsPlaces

@@ -1,4 +1,4 @@
--- What holds of every World that events can reach.
+-- What holds for every World that events can reach.
 use Rattle.std.specs.Prelude.{◌≡◌, ℕ, ◌+◌, ◌<◌, ◌≤◌, true, [], length}
 use Rattle.event_word.specs.declared.phase.Phase.{Phase}
 use Rattle.event_word.specs.declared.phase.Phase.TheVariants.{Running, Pre, Stacked, Ended}
@@ -6,14 +6,14 @@ use Rattle.event_word.specs.Lists.{one_if, total, times}
 use Rattle.event_word.specs.World.{World, phase_of, has_passed_flag, rows_passed_by, owed_by}
 use Rattle.event_word.specs.World.{is_announcing, has_token}
 
--- 1 for a pre-waiter
+-- 1 for the phase of a pre-waiter, else 0
 abbrev pub waits : Phase → ℕ
 waits Running = 0
 waits Pre = 1
 waits Stacked = 0
 waits Ended = 0
 
--- 1 for a seat that waits for its token, or to notice it
+-- 1 for the phase of a seat that waits for its token or has not taken it, else 0
 abbrev pub sleeps : Phase → ℕ
 sleeps Running = 0
 sleeps Pre = 0
@@ -24,31 +24,32 @@ sleeps Ended = 0
 abbrev pub stands : World → ℕ → ℕ
 stands w seat = times seat w.stack + total (times seat) w.owed + one_if (has_token w seat)
 
--- how many pre-waiters have found no stop
+-- how many pre-waiters have passed the stop flag
 abbrev pub unstopped : World → ℕ
 unstopped w = total (λ seat. one_if (has_passed_flag w seat)) w.pre
 
--- nobody is parked for good: the stack is empty, and no pre-waiter can get to it
+-- nobody stays parked: the stack is empty, and each pre-waiter that could commit finds a signal
 pub record IsDrained (w : World) : Type 0 where
   pub stack : w.stack ≡ []
   pub signals : unstopped w ≤ w.signals
 
+-- what holds for every World that events can reach
 pub record Lawful (w : World) : Type 0 where
-  -- signals are for pre-waiters
+  -- each signal is for a pre-waiter
   pub answered : w.signals ≤ length w.pre
   -- the pre-waiters are the seats whose phase says so, each once
   pub waiting : (seat : ℕ) → times seat w.pre ≡ waits (phase_of w seat)
-  -- a stacked seat stands in one place, once, and no other seat stands there
+  -- a stacked seat stands in exactly one of these places, once; no other seat stands in any of them
   pub standing : (seat : ℕ) → stands w seat ≡ sleeps (phase_of w seat)
-  -- a worker that owes, or is to notify, runs
+  -- a worker that owes a token, or is to notify, runs
   pub owing : (worker : ℕ) → worker < length w.phases → 0 < length (owed_by w worker)
       → phase_of w worker ≡ Running
   pub announcing : (worker : ℕ) → worker < length w.phases → is_announcing w worker ≡ true
       → phase_of w worker ≡ Running
-  -- once all were notified of a stop, nobody parks
+  -- once all were notified of a stop, nobody can park
   pub stopped : w.stop ≡ 2 → IsDrained w
 
--- there is an entry for each worker, each actor and each row
+-- the lists have one entry for each worker, each actor and each row
 pub record HasSizes (workers actors rows : ℕ) (w : World) : Type 0 where
   pub phases : length w.phases ≡ workers
   pub flags : length w.flags ≡ workers

@@ -1,6 +1,6 @@
--- What a World may have at most.
+-- The most workers of a World.
 use Rattle.std.specs.Prelude.{ℕ}
 
--- the most workers: the numbers of 14 bits but two, one of which stands for nobody
+-- the most workers: 2 ^ 14 less two; the number 16,383 stands for nobody
 abbrev pub most_workers : ℕ
 most_workers = 16382

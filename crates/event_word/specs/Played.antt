@@ -1,4 +1,4 @@
--- What is played on a World is a run of the events that were possible.
+-- The possible events of a list that is played on a World are a run.
 use Rattle.std.specs.Prelude.{◌≡◌, ℕ, ◌+◌, ◌⊎◌, List, [], ◌∷◌, length}
 use Rattle.event_word.specs.declared.event.Event.{Event}
 use Rattle.event_word.specs.World.{World, opening_world}
@@ -6,13 +6,14 @@ use Rattle.event_word.specs.Lawful.{Lawful, HasSizes}
 use Rattle.event_word.specs.Play.{Plays}
 use Rattle.event_word.specs.Runs.{Runs}
 
--- the list of events with some of them left out
+-- the first list is the second list with some events left out
 abbrev pub IsPart : List Event → List Event → Type 0
 IsPart part [] = part ≡ []
 IsPart part (e ∷ es) =
     IsPart part es ⊎ ((rest : List Event) × (part ≡ e ∷ rest) × IsPart rest es)
 
--- so many of the events, each possible after those before it, lead from the first World to the last
+-- the history is `taken` of the events, in order; each is possible after the ones before it, and
+-- together they lead from the first World to the last
 pub record IsHistory (first : World) (events : List Event) (taken : ℕ) (last : World)
     (history : List Event) : Type 0 where
   pub part : IsPart history events

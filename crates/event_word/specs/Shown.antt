@@ -10,16 +10,16 @@ use Rattle.event_word.specs.World.{World}
 use Rattle.event_word.specs.Step.{Possible, effect}
 use Rattle.event_word.specs.Lawful.{Lawful}
 
--- the seat on top
+-- the seat on top of the stack, or nobody
 abbrev pub top_of : List ℕ → ℕ
 top_of [] = nobody
 top_of (seat ∷ seats) = seat
 
--- the fields that a World has, where its top was pushed at this epoch
+-- the fields of the word that shows this World, if its top was pushed at this epoch
 abbrev pub shown : World → ℕ → Fields
 shown w epoch = fields (top_of w.stack) (length w.pre) w.signals epoch
 
--- each step on the fields is the event's effect on the World that they show
+-- each step on the fields is the effect of its event on the World that they show
 pub record WordFollows (w : World) (epoch : ℕ) : Type 0 where
   pub prewait : (seat : ℕ) → prewaited (shown w epoch) ≡ shown (effect w (Prewait seat)) epoch
   pub cancel : (seat : ℕ) → Possible w (Cancel seat)
@@ -37,6 +37,6 @@ pub record WordFollows (w : World) (epoch : ℕ) : Type 0 where
       → shown w epoch ≡ shown (effect w (Notify actor)) epoch
   pub all : (actor : ℕ) → all_notified (shown w epoch) ≡ shown (effect w (NotifyAll actor)) 0
 
--- the same of every lawful World
+-- the word follows every lawful World
 abbrev pub WordFollowsWorld : Type 0
 WordFollowsWorld = (w : World) (epoch : ℕ) → Lawful w → WordFollows w epoch

@@ -12,26 +12,26 @@ use Rattle.event_word.specs.Lists.{without}
 use Rattle.event_word.specs.World.{World, phase_of, has_passed_flag, rows_passed_by, has_passed}
 use Rattle.event_word.specs.World.{owed_by, is_announcing, has_token, length_of}
 
--- how many jobs a row can count
+-- the most jobs of a row
 abbrev pub row_limit : ℕ
 row_limit = 1048576
 
--- the actor has unparked each seat that it popped, and runs if it is a worker
+-- a free actor: it has unparked each seat that it popped, and runs if it is a worker
 pub record IsFree (w : World) (actor : ℕ) : Type 0 where
   pub known : actor < length w.owed
   pub owes_none : owed_by w actor ≡ []
   pub runs : actor < length w.phases → phase_of w actor ≡ Running
 
--- a free actor that is not to notify
+-- a quiet actor: it is free, and not to notify
 abbrev pub IsQuiet : World → ℕ → Type 0
 IsQuiet w actor = IsFree w actor × (is_announcing w actor ≡ false)
 
--- the seat has found each row empty and no stop
+-- the seat has found each row empty, and no stop, since its prewait
 pub record HasPassedAll (w : World) (seat : ℕ) : Type 0 where
   pub flag : has_passed_flag w seat ≡ true
   pub rows : (row : ℕ) → row < length w.lengths → has_passed w seat row ≡ true
 
--- the event may happen now
+-- the event is possible now
 abbrev pub Possible : World → Event → Type 0
 Possible w (Publish actor row) =
     IsQuiet w actor × (row < length w.lengths) × (length_of w row < row_limit)
@@ -49,7 +49,8 @@ Possible w (Take actor row) = IsFree w actor × (0 < length_of w row)
 Possible w (Stop actor) = IsQuiet w actor × (w.stop ≡ 0)
 Possible w (End seat) = (seat < length w.phases) × IsQuiet w seat × (w.stop ≢ 0)
 
--- the seat is no pre-waiter any more, and this many signals are left
+-- the World in which the seat has left the pre-waiters for this phase, and this many signals are
+-- left
 abbrev pub leave : World → ℕ → Phase → ℕ → World
 leave w seat phase signals = record w {
   phases = slice_set w.phases seat phase;
@@ -57,34 +58,35 @@ leave w seat phase signals = record w {
   signals = signals;
 }
 
--- the pre-waiter goes to the top of the stack
+-- the World in which the pre-waiter is the top of the stack
 abbrev pub park : World → ℕ → World
 park w seat = record (leave w seat Stacked w.signals) { stack = seat ∷ w.stack }
 
--- the pre-waiter takes a signal, or parks where there is none
+-- the World after a commit: the pre-waiter takes a signal, or parks if there is none
 abbrev pub commit : World → ℕ → World
 commit w seat =
     if nat_lt 0 w.signals then leave w seat Running (w.signals - 1) else park w seat
 
--- the top of the stack, where there is one, moves to those that the actor owes
+-- the World in which the top of the stack, if any, is the last seat that the actor owes
 abbrev pub pop : World → ℕ → List ℕ → World
 pop w actor [] = w
 pop w actor (top ∷ rest) =
     record w { stack = rest; owed = slice_set w.owed actor (owed_by w actor ++ top ∷ []) }
 
--- the actor is not to notify any more
+-- the World in which the actor isn't to notify
 abbrev pub announced : World → ℕ → World
 announced w actor = record w { announcing = slice_set w.announcing actor false }
 
--- one signal more
+-- the World with one more signal
 abbrev pub signal : World → World
 signal w = record w { signals = w.signals + 1 }
 
--- a pre-waiter without a signal gets one; where there is none, the stack is popped
+-- the World after a notification: a pre-waiter without a signal gets one; if each has one, the
+-- stack is popped
 abbrev pub notify : World → ℕ → World
 notify w actor = if nat_lt w.signals (length w.pre) then signal w else pop w actor w.stack
 
--- the first seat that the actor owes gets its token
+-- the World in which the first of these seats has its token, and the actor owes the rest
 abbrev pub unpark : World → ℕ → List ℕ → World
 unpark w actor [] = w
 unpark w actor (seat ∷ rest) = record w {
@@ -130,7 +132,7 @@ effect w (Stop actor) =
     record w { announcing = slice_set w.announcing actor true; stop = 1 }
 effect w (End seat) = record w { phases = slice_set w.phases seat Ended }
 
--- the one that acts
+-- the actor of the event
 abbrev pub actor_of : Event → ℕ
 actor_of (Publish actor row) = actor
 actor_of (Prewait seat) = seat

@@ -1,4 +1,4 @@
--- How the program keeps a World.
+-- How the program stores a World.
 use Rattle.std.specs.Prelude.{◌+◌, ◌≤◌, length, map, vec_capacity}
 use Rattle.event_word.specs.declared.world.World.TheInside.{Inside}
 use Rattle.event_word.specs.Limits.{most_workers}
@@ -6,7 +6,7 @@ use Rattle.event_word.specs.World.{World}
 use Rattle.event_word.specs.Debts.{owed_lists, AreKnown}
 use Rattle.event_word.specs.Lawful.{Lawful, HasSizes}
 
--- the lists that the program keeps, and of each actor its own part of the debts
+-- the World that the stored lists show; each actor has its own part of the list of debts
 abbrev pub world_view : {A : Type 0} → Inside A → World
 world_view i = record {
   phases = i.phases.items;

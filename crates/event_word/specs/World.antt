@@ -3,30 +3,31 @@ use Rattle.std.specs.Prelude.{ℕ, ◌+◌, Bool, false, List, [], slice_index, 
 use Rattle.event_word.specs.declared.phase.Phase.{Phase}
 use Rattle.event_word.specs.declared.phase.Phase.TheVariants.{Running, Ended}
 
--- Workers are numbered from 0, and the notifiers after them: both are actors. A worker is a seat.
+-- The model's state. Workers are numbered from 0, and the notifiers after them. Workers and
+-- notifiers are actors. A worker is also a seat.
 pub record World : Type 0 where
-  -- of each worker
+  -- for each worker, its phase
   pub phases : List Phase
-  -- of each worker, whether it has found no stop since its prewait, and of each row whether it has
-  -- found it empty
+  -- for each worker, whether it has found no stop since its prewait, and which rows it has found
+  -- empty since then
   pub flags : List Bool
   pub passed : List (List Bool)
-  -- the pre-waiting seats in order of arrival, and how many of them are answered
+  -- the pre-waiting seats in order of arrival, and how many of them have a signal
   pub pre : List ℕ
   pub signals : ℕ
-  -- the seats that wait, top first
+  -- the seats on the stack, top first
   pub stack : List ℕ
-  -- of each actor, the seats that it has popped and not unparked, and whether it is to notify
+  -- for each actor, the seats that it has popped and not unparked, and whether it is to notify
   pub owed : List (List ℕ)
   pub announcing : List Bool
-  -- of each worker, whether it is unparked and has not noticed
+  -- for each worker, whether it is unparked and has not taken its token
   pub tokens : List Bool
   -- how many jobs each row has
   pub lengths : List ℕ
-  -- 0 at first, 1 where the workers are to end, 2 once all were notified of that
+  -- 0 at first, 1 once the workers are to end, 2 once all were notified of this
   pub stop : ℕ
 
--- the phase of a seat; a number that no worker has counts as ended
+-- the phase of a seat; a number past the last worker counts as ended
 abbrev pub phase_of : World → ℕ → Phase
 phase_of w seat = slice_index_or w.phases seat Ended
 
@@ -34,7 +35,7 @@ phase_of w seat = slice_index_or w.phases seat Ended
 abbrev pub has_passed_flag : World → ℕ → Bool
 has_passed_flag w seat = slice_index_or w.flags seat false
 
--- of each row, whether the seat has found it empty since its prewait
+-- for each row, whether the seat has found it empty since its prewait
 abbrev pub rows_passed_by : World → ℕ → List Bool
 rows_passed_by w seat = slice_index_or w.passed seat []
 
@@ -58,7 +59,7 @@ has_token w seat = slice_index_or w.tokens seat false
 abbrev pub length_of : World → ℕ → ℕ
 length_of w row = slice_index w.lengths row
 
--- all workers run, all lists are empty, and nobody has stopped
+-- the World at the start: all workers run, all lists are empty, and nobody has stopped
 abbrev pub opening_world : ℕ → ℕ → ℕ → World
 opening_world workers notifiers rows = record {
   phases = replicate workers Running;

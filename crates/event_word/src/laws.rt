@@ -1,4 +1,5 @@
-//! Facts about the event model alone. Each function does nothing, and its contract is the fact.
+//! Facts about the event model alone. Each function does nothing, and its contract is the fact. The
+//! specs have the facts, and callers in event_count, waking_rows and worker_pool use them.
 
 ghost use Rattle.event_word.specs.Balance.{RunsBalance};
 ghost use Rattle.event_word.specs.Frame.{EventsLeaveAlone};
@@ -8,50 +9,51 @@ ghost use Rattle.event_word.specs.Runs.{RunsAreLawful};
 ghost use Rattle.event_word.specs.Shown.{WordFollowsWorld};
 ghost use Rattle.event_word.specs.Waking.{RunsStayAwake, RunsWakeAll};
 
-/// Every list of events leads from an opening World to a lawful one.
+/// Every list of possible events leads from an opening World to a lawful one.
 pub fn runs_are_lawful()
     ensures { RunsAreLawful }
 {}
 
-/// Whatever list of events is played on a World, those that were possible lead to the World that is
-/// left, and an opening World is left lawful. So the laws of every list of possible events are laws
-/// of `World::play` too.
+/// Whatever list of events is played on a World, the possible ones among them lead to the World
+/// that `play` leaves. Played on an opening World they leave a lawful one. So each law about lists
+/// of possible events is a law about `World::play` too.
 pub fn plays_are_runs()
     ensures { PlaysAreRuns }
 {}
 
-/// An event changes nothing that is another actor's, but that it may give a seat its token.
+/// An event changes nothing that belongs to another actor. It may only give a seat its token.
 pub fn events_leave_others_alone()
     ensures { EventsLeaveAlone }
 {}
 
-/// What the steps make of a word's fields is what the events make of the World that they show.
+/// The `after_` functions follow the events: the fields after a step are the fields of the World
+/// after its event.
 pub fn word_follows_world()
     ensures { WordFollowsWorld }
 {}
 
-/// Over every run from an opening World a seat's pushes, takings off the stack, unparks and wakes
-/// follow one another.
+/// In every run from an opening World, a seat's pushes, pops, unparks and wakes follow one another.
 pub fn runs_balance()
     ensures { RunsBalance }
 {}
 
-/// Before a stop each row with jobs has support: somebody is to notify, works, is about to look at
-/// it, or is being woken. So at all times, where every worker is parked and nobody is to notify,
-/// all rows are empty.
+/// Before a stop each row with jobs has support: some actor is to notify, runs, is about to look at
+/// the row, or is being woken. So all rows are empty whenever every worker is parked and no actor
+/// is to notify.
 pub fn runs_stay_awake()
     ensures { RunsStayAwake }
 {}
 
-/// The same where some actors are absent, as the workers of a pool whose start was refused, and a
-/// worker is present: who supports a row is present, and only those who are have to be parked. For
-/// a worker that is absent runs for good, and would else support every row.
+/// `runs_stay_awake` if some actors never act, for example the workers of a pool whose start was
+/// refused. At least one worker has to be present. Then the support is by a present actor, and only
+/// the present workers have to be parked. Without this, an absent worker counts as running for
+/// good, and would support every row.
 pub fn runs_stay_awake_by_present()
     ensures { RunsStayAwakeByPresent }
 {}
 
-/// Once all were notified of a stop nobody is on the stack: a sleeper is owed its token or has it,
-/// and once nobody owes, it has it.
+/// Once all were notified of a stop, the stack is empty. A sleeper is owed its token or has it, and
+/// has it once no actor owes a token.
 pub fn runs_wake_all()
     ensures { RunsWakeAll }
 {}

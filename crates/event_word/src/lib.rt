@@ -1,5 +1,8 @@
-//! The packed word of an event count, and the event model that proofs about waiting and waking
-//! stand on. The word's layout and its steps follow Eigen's EventCount.h, with 14-bit counts.
+//! The packed word of an event count, and the event model on which proofs about waiting and waking
+//! rest. The word's layout and its steps follow Eigen's EventCount.h, with 14-bit counts.
+//!
+//! The table rules of event_count and the laws of waking_rows and worker_pool are stated over this
+//! model. A change of an event, a field or a law here is a change there.
 #![tactic(auto)]
 
 mod after;

@@ -1,14 +1,15 @@
-//! The phases of a worker.
+//! The phases of a worker. `World` keeps one for each worker.
 
-/// Where a worker stands in its waiting.
+/// The phase of a worker.
 #[derive(Clone, Copy, Debug, PartialEq, Eq)]
 pub enum Phase {
-    /// It works.
+    /// The worker runs.
     Running,
-    /// It has announced that it will wait, and checks once more whether it has to.
+    /// The worker has announced that it will wait, and checks once more whether it has to.
     Pre,
-    /// It waits: on the stack, owed by a notifier, or with its token not taken yet.
+    /// The worker waits: it is on the stack, or popped and not unparked, or it has not taken its
+    /// token yet.
     Stacked,
-    /// It takes part in nothing any more.
+    /// The worker has ended, and takes no more steps.
     Ended,
 }

@@ -1,4 +1,5 @@
-//! The packed word of an event count and its four fields.
+//! The packed word of an event count and its four fields. `after.rt` computes with this layout, and
+//! `specs/Fields.antt` states it.
 
 ghost use Rattle.std.specs.Prelude.{◌≡◌};
 ghost use Rattle.event_word.specs.Fields.{InRange, fields_of, word_of};
@@ -7,26 +8,26 @@ ghost use Rattle.event_word.specs.Fields.{InRange, fields_of, word_of};
 /// pre-waiters and the signals, and 22 bits for the epoch.
 #[derive(Clone, Copy, Debug, PartialEq, Eq)]
 pub struct Fields {
-    /// The seat on top of the stack, or 16,383 where the stack is empty.
+    /// The seat on top of the stack, or 16,383 if the stack is empty.
     pub top: u16,
-    /// How many seats wait between their prewait and their commit or cancel.
+    /// How many seats are between their prewait and their commit or cancel.
     pub pre: u16,
-    /// How many of these have been answered by a notification.
+    /// How many of the pre-waiters have a signal from a notification.
     pub signals: u16,
-    /// Which push of the top this is, or 0 where the stack is empty.
+    /// The epoch at which the top was pushed, or 0 if the stack is empty.
     pub epoch: u32,
 }
 
-/// The top of an empty stack.
+/// The value of the field `top` if the stack is empty.
 pub const NOBODY: u64 = 16_383;
-/// One pre-waiter, as a part of a word: what a prewait adds to it.
+/// One pre-waiter as a part of a word: a prewait adds it.
 pub const PRE_WAITER: u64 = 1 << 14;
-/// One signal, as a part of a word.
+/// One signal as a part of a word.
 pub(crate) const SIGNAL: u64 = 1 << 28;
-/// One epoch, as a part of a word.
+/// One epoch as a part of a word.
 pub(crate) const EPOCH: u64 = 1 << 42;
 
-/// The word with these fields.
+/// Packs the fields into a word.
 pub const fn pack(fields: Fields) -> u64
     requires { InRange fields }
     ensures word { result ≡ word_of fields }
@@ -38,7 +39,7 @@ pub const fn pack(fields: Fields) -> u64
         + fields.epoch as u64 * EPOCH
 }
 
-/// The fields of a word.
+/// Unpacks the fields of a word.
 pub const fn unpack(word: u64) -> Fields
     ensures fields { result ≡ fields_of word }
     ensures in_range { InRange result }

@@ -1,4 +1,6 @@
 //! The state of the event model: who waits, who is owed a token, and how long the rows are.
+//! `specs/World.antt` has this state as plain data, and `specs/Stored.antt` says how the lists here
+//! show it: a field that changes here changes there.
 
 ghost use Rattle.std.specs.Prelude.{◌≡◌, [], false, ◌+◌, ◌<◌, ◌≤◌, IfOk, length, map, replicate};
 ghost use Rattle.std.specs.Prelude.{slice_get};
@@ -15,25 +17,25 @@ use debts::{Debt, nth_owed};
 use std::alloc::{AllocError, Allocator, Global};
 use std::marker::Model;
 
-/// An event count without threads: a pure machine whose steps are events. It takes all its memory
-/// when it is made.
+/// An event count without threads: a state machine whose steps are events. It allocates all its
+/// memory when it is made.
 #[derive(Drop)]
 pub struct World<A: Allocator = Global> {
-    // Of each worker: its phase, whether it has passed the stop flag, which rows it has passed, and
-    // whether it has a token.
+    // One entry for each worker: its phase, whether it has passed the stop flag, which rows it has
+    // passed, and whether it has a token.
     phases: Vec<Phase, A>,
     flags: Vec<bool, A>,
     passed: Vec<Vec<bool, A>, A>,
     tokens: Vec<bool, A>,
-    // The pre-waiters in order of arrival, and how many of them are answered.
+    // The pre-waiters in order of arrival, and how many of them have a signal.
     pre: Vec<u16, A>,
     signals: u64,
     // The parked seats, top first.
     stack: Vec<u16, A>,
     owed: Vec<Debt, A>,
-    // Of each actor, whether it is to notify.
+    // One entry for each actor: whether it is to notify.
     announcing: Vec<bool, A>,
-    // Of each row, how many jobs it has.
+    // One entry for each row: how many jobs it has.
     lengths: Vec<u64, A>,
     notifiers: u16,
     stop: u8,
@@ -52,8 +54,8 @@ impl<A: Allocator> Model for World<A> {
 }
 
 impl<A: Allocator> World<A> {
-    /// A World of this many workers, which all run, this many notifiers, and this many rows, which
-    /// are all empty.
+    /// Returns a World in which all `workers` run and all `rows` are empty, or an error if an
+    /// allocation fails.
     pub fn new(alloc: A, workers: u16, notifiers: u16, rows: u16) -> Result<World<A>, AllocError>
     where
         A: Clone,
@@ -80,39 +82,39 @@ impl<A: Allocator> World<A> {
         })
     }
 
-    /// Every World is lawful, whatever was done with it. Does nothing.
+    /// Proves that every World is lawful, whatever events it took. Does nothing.
     pub fn stays_lawful(&self)
         ensures lawful { Lawful self.now }
         ensures sizes { HasSizes (length self.now.phases) (length self.now.owed)
             (length self.now.lengths) self.now }
     {
-        // The type's invariant says so, and is known once a field is read.
+        // The type's invariant is the fact. The prover knows it once a field is read.
         let _stop = self.stop;
     }
 
-    /// The pre-waiting seats in order of arrival.
+    /// Returns the pre-waiting seats in order of arrival.
     pub fn pre(&self) -> &[u16]
         ensures { result.now ≡ self.now.pre }
     {
         &self.pre
     }
 
-    /// How many pre-waiters are answered.
+    /// Returns how many pre-waiters have a signal.
     pub fn signals(&self) -> u64
         ensures { result ≡ self.now.signals }
     {
         self.signals
     }
 
-    /// The parked seats, top first.
+    /// Returns the seats on the stack, top first.
     pub fn stack(&self) -> &[u16]
         ensures { result.now ≡ self.now.stack }
     {
         &self.stack
     }
 
-    /// The seat at this place among those that the actor has popped and not unparked, the next
-    /// one at place 0.
+    /// Returns the seat at `place` among the seats that the actor has popped and not unparked.
+    /// Place 0 is the seat that it unparks next. None past the last of them.
     pub fn owed(&self, actor: u32, place: usize) -> Option<u16>
         requires { actor < length self.now.owed }
         ensures { result ≡ slice_get (owed_by self.now actor) place }
@@ -120,7 +122,7 @@ impl<A: Allocator> World<A> {
         nth_owed(&self.owed, actor, place)
     }
 
-    /// The phase of a seat.
+    /// Returns the phase of a seat.
     pub fn phase(&self, seat: u16) -> Phase
         requires { seat < length self.now.phases }
         ensures { result ≡ phase_of self.now seat }
@@ -128,7 +130,7 @@ impl<A: Allocator> World<A> {
         self.phases[usize::from(seat)]
     }
 
-    /// Whether a seat is unparked and has not taken its token.
+    /// Returns whether a seat is unparked and has not taken its token.
     pub fn token(&self, seat: u16) -> bool
         requires { seat < length self.now.phases }
         ensures { result ≡ has_token self.now seat }
@@ -136,7 +138,7 @@ impl<A: Allocator> World<A> {
         self.tokens[usize::from(seat)]
     }
 
-    /// How many jobs a row has.
+    /// Returns how many jobs a row has.
     pub fn length(&self, row: u16) -> u64
         requires { row < length self.now.lengths }
         ensures { result ≡ length_of self.now row }
@@ -144,7 +146,8 @@ impl<A: Allocator> World<A> {
         self.lengths[usize::from(row)]
     }
 
-    /// 0 at first, 1 where the workers are to end, and 2 once all of them were notified of that.
+    /// Returns 0 at first, 1 once the workers are to end, and 2 once all of them were notified of
+    /// this.
     pub fn stop(&self) -> u8
         ensures { result ≡ self.now.stop }
     {
@@ -152,7 +155,7 @@ impl<A: Allocator> World<A> {
     }
 }
 
-/// An empty list with room for so many.
+/// Returns an empty list with room for `len` elements.
 fn room_for<T, A: Allocator + Clone>(alloc: &A, len: usize) -> Result<Vec<T, A>, AllocError>
     ensures items { IfOk result (λ list. list.items ≡ []) }
     ensures exact { IfOk result (λ list. vec_capacity list ≡ len) }
@@ -160,7 +163,7 @@ fn room_for<T, A: Allocator + Clone>(alloc: &A, len: usize) -> Result<Vec<T, A>,
     Vec::with_capacity(alloc.clone()?, len)
 }
 
-/// A list of so many copies of the value.
+/// Returns a list of `len` copies of the value.
 fn filled<T: Copy, A: Allocator + Clone>(
     alloc: &A,
     len: usize,
@@ -173,7 +176,7 @@ fn filled<T: Copy, A: Allocator + Clone>(
     Ok(list)
 }
 
-/// So many lists of so many times false.
+/// Returns `len` lists, each of `rows` times false.
 fn filled_rows<A: Allocator + Clone>(
     alloc: &A,
     len: usize,

@@ -35,7 +35,7 @@ cons_of-some None rest = λ is. (cc)
 cons_of-some (Some y) None = λ is. (cc)
 cons_of-some (Some y) (Some ys) = λ is. (cc)
 
--- an object of dims that have so many places
+-- an object of exactly dims that have `size` places
 record HasSize (d : Data) (size : ℕ) : Type 0 where
   dims : Data
   sizes : List ℕ

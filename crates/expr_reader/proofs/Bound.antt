@@ -327,7 +327,7 @@ IsBehind-bound profile n m t says inner old mid new tree says_so inputs bindings
   shaped = is.shaped;
 }
 
--- the same of what was read, a fault of it too
+-- a tree without bindings that was read, or its fault, is what the expression says
 pub IsReadBehind-alone : (profile : Profile) (n : Named) (m : ℕ) (d : Data) (named : NamedInputs)
     (indices : List ℕ) (r : Result Subtree Fault) → is_binding profile d ≡ false
     → IsNamed named profile.bounds n

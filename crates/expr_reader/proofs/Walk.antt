@@ -36,7 +36,7 @@ fault-below step says fault place h = elim h [
   | inr found ↦ inr (ap (below step) found)
 ]
 
--- the same by the indices on the way
+-- a fault that is found below an index, its place given by the indices on the way
 pub fault-behind : {A : Type 0} (says : Result A Located) (indices : List ℕ) (i : ℕ) (fault : Fault)
     → (fault ≡ NoMemory) ⊎ (says ≡ Err (record { fault = fault; place = way_of indices }))
     → (fault ≡ NoMemory) ⊎ (below (index i) says ≡ Err (record { fault = fault; place = way_of (indices ++ i ∷ []) }))
@@ -70,13 +70,13 @@ pub made-unary : {A : Type 0} (make : A → Unary) (t u : Term) (there : Result 
 made-unary make t u (Err l) h bounds inputs = absurd (cc)
 made-unary make t u (Ok a) h bounds inputs = let same : u ≡ unary (make a) t = cc in rw same refl
 
--- whose inputs are those of its operand
+-- the inputs of an operation on one operand are the inputs of its operand
 pub made-unary-inputs : {A : Type 0} (make : A → Unary) (t u : Term) (there : Result A Located)
     → map_found (λ a. unary (make a) t) there ≡ Ok u → (count : ℕ) → has_inputs u count ≡ has_inputs t count
 made-unary-inputs make t u (Err l) h count = absurd (cc)
 made-unary-inputs make t u (Ok a) h count = let same : u ≡ unary (make a) t = cc in rw same refl
 
--- the same of two operands
+-- the operand dims and inputs of an operation on two operands
 pub made-binary : {A : Type 0} (make : A → Binary) (t s u : Term) (there : Result A Located)
     → map_found (λ a. binary (make a) t s) there ≡ Ok u
     → ((bounds : Bounds) (inputs : List Contents) → operand_dims bounds u inputs ≡ dims_of bounds t inputs ∷ dims_of bounds s inputs ∷ [])
@@ -180,7 +180,7 @@ module _ (profile : Profile) (named : Named) (n : ℕ) (few : n < profile.nodes)
       from (x ∷ y ∷ vs) same long first =
           rw first (tree_at-applied profile named n few (one forms make) h v list is head names x (y ∷ vs) same (omega (arith, long)))
 
-  -- the same of one on two operands
+  -- what is found of a node whose operation takes two operands
   pub tree_at-two : (forms : List Form) (make : Arguments forms → Binary) (a b : Value)
       → operation_at profile (view h) ≡ Ok (two forms make)
       → length list.items ≡ 3 + length forms → a ≡ get_or list.items 1 a → b ≡ get_or list.items 2 b

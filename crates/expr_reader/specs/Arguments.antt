@@ -1,4 +1,4 @@
--- The arguments of operations: their forms, and what stands in a text for one of each.
+-- The arguments of operations: their forms, and which JSON values have each form.
 use Rattle.std.specs.Prelude.{ℕ, ℤ, ◌+◌, Bool, List, [], ◌∷◌, Option, Some, None}
 use Rattle.std.specs.Prelude.{Result, Ok, Err, ok_or, option_and_then}
 use Rattle.serde_json.specs.Data.{Data, Items, no_items, item}
@@ -9,8 +9,8 @@ use Rattle.expr_reader.specs.Place.{Located, index, at}
 use Rattle.expr_reader.specs.Steps.{and_then}
 use Rattle.expr_reader.specs.declared.fault.Fault.TheVariants.{BadArgument}
 
--- the forms: a whole number from 0 up, a list of these, a list of pairs of these, a list of truth
--- values, and a whole number of the `i64` range
+-- the forms of arguments: a whole number from 0 up, a list of such numbers, a list of pairs of such
+-- numbers, a list of truth values, and a whole number of the `i64` range
 pub data Form : Type 0 where
   size : Form
   sizes : Form
@@ -18,7 +18,7 @@ pub data Form : Type 0 where
   flags : Form
   value : Form
 
--- what an argument of a form is
+-- the type of an argument of a form
 abbrev pub Argument : Form → Type 0
 Argument size = ℕ
 Argument sizes = List ℕ
@@ -30,16 +30,16 @@ Argument value = ℤ
 abbrev pub size_in : Data → Option ℕ
 size_in d = within 0 greatest_size d
 
--- the two numbers of a list of two
+-- the two numbers of a list that has two
 abbrev pub pair_of : List ℕ → Option (ℕ × ℕ)
 pair_of (x ∷ y ∷ []) = Some (x, y)
 pair_of numbers = None
 
--- a list of two sizes
+-- a list of two sizes, as a pair
 abbrev pub pair_in : Data → Option (ℕ × ℕ)
 pair_in d = option_and_then pair_of (list_in size_in d)
 
--- an argument of a form, where the data is one
+-- the argument of a form that the data is, if it is one
 abbrev pub argument_in : (f : Form) → Data → Option (Argument f)
 argument_in size d = size_in d
 argument_in sizes d = list_in size_in d
@@ -47,13 +47,13 @@ argument_in pairs d = list_in (λ pair. option_and_then pair_of (list_in size_in
 argument_in flags d = list_in as_bool d
 argument_in value d = signed_of d
 
--- an argument of each form, in their order
+-- one argument for each form, in their order
 abbrev pub Arguments : List Form → Type 0
 Arguments [] = Unit {0}
 Arguments (f ∷ fs) = Argument f × Arguments fs
 
--- the arguments that the items of an array are from an index on, or the first that is none of its
--- form; there is one of each form, and no more
+-- the arguments that the items of an array are, if there is one of each form and no more; otherwise
+-- a fault at the first item that does not have its form. The first item has the given index
 abbrev pub arguments_at : ℕ → (fs : List Form) → Items → Result (Arguments fs) Located
 arguments_at i [] no_items = Ok tt
 arguments_at i (f ∷ fs) (item d ds) =

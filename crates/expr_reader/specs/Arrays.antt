@@ -1,5 +1,5 @@
--- What a header asks for whose tensors' values lie apart, each tensor's in an array of its own: one
--- array a tensor, in the order of the names.
+-- What a header with arrays asks for: the values of each tensor are an array of their own. There is
+-- one array for each tensor, in the order of the names.
 use Rattle.std.specs.Prelude.{ℕ, ℤ, ◌==◌, nat_lt, List, [], ◌∷◌, ◌++◌, length, map}
 use Rattle.std.specs.Prelude.{Option, Some, None, option_map, option_and_then}
 use Rattle.std.specs.Prelude.{Result, Err, if◌then◌else◌}
@@ -19,24 +19,24 @@ use Rattle.expr_reader.specs.declared.array.Array.{Array}
 use Rattle.expr_reader.specs.declared.fault.Fault.{Fault}
 use Rattle.expr_reader.specs.declared.fault.Fault.TheVariants.{TooLong}
 
--- the values of arrays of the code
+-- the lists of values of arrays of the code
 abbrev pub arrays_under : List Array → List (List ℤ)
 arrays_under arrays = map (λ a. a.values.now) arrays
 
--- arrays one behind the other
+-- the values of all arrays, one array after the other
 abbrev pub joined : List (List ℤ) → List ℤ
 joined [] = []
 joined (array ∷ arrays) = array ++ joined arrays
 
--- a tensor that has all these values
+-- the tensor, if it has as many values as the array
 abbrev pub with_all : List ℤ → Contents → Option Contents
 with_all array t = if length t.values == length array then Some t else None
 
--- an object of exactly dims, with an array of as many values as the dims have places
+-- an object of exactly dims, with an array that has as many values as the dims have places
 abbrev pub array_tensor : Bounds → List ℤ → Data → Option Contents
 array_tensor bounds array d = option_and_then (with_all array) (framed_tensor bounds array d)
 
--- the tensor of each member, in the members' order, with an array for each and none left
+-- the tensor of each member, in the members' order, if there is one array for each and no more
 abbrev pub array_tensors : Bounds → List (List ℤ) → Members → Option (List Contents)
 array_tensors bounds [] no_members = Some []
 array_tensors bounds (array ∷ arrays) no_members = None
@@ -44,22 +44,23 @@ array_tensors bounds [] (member name d ms) = None
 array_tensors bounds (array ∷ arrays) (member name d ms) =
     cons_of (array_tensor bounds array d) (array_tensors bounds arrays ms)
 
--- the place of the first member that is no tensor
+-- the way to the first member that is no tensor
 abbrev pub bad_array : Bounds → List (List ℤ) → Members → List Step
 bad_array bounds arrays no_members = []
 bad_array bounds [] (member name d ms) = field name ∷ []
 bad_array bounds (array ∷ arrays) (member name d ms) =
     option_map_or (λ t. bad_array bounds arrays ms) (array_tensor bounds array d) (field name ∷ [])
 
--- the inputs of a header and arrays, within bounds, or their fault
+-- the inputs that a header and arrays give, within bounds, or their fault
 abbrev pub array_inputs : List (List ℤ) → Bounds → Data → Result Named Located
 array_inputs arrays bounds d =
     or_place (bad_array bounds arrays) d (named_by (array_tensors bounds arrays) d)
 
--- how many places the dims have, in an object of nothing else
+-- how many places the dims have, in an object of exactly dims
 abbrev pub places_in : Data → Option ℕ
 places_in d = option_map size_of (option_and_then (list_in whole_of) (dims_alone d))
 
+-- how many places each member's dims have
 abbrev pub places_of_each : Members → Option (List ℕ)
 places_of_each no_members = Some []
 places_of_each (member name d ms) = cons_of (places_in d) (places_of_each ms)

@@ -1,4 +1,4 @@
--- A request of the code, as what its text asks for.
+-- What a `Request` of the code asks for.
 use Rattle.std.specs.Prelude.{◌≡◌, [], length, IsTrue, Ok}
 use Rattle.tensor_ops.specs.Result.{dims_of}
 use Rattle.tensor_ops.specs.Term.{has_inputs}
@@ -7,6 +7,7 @@ use Rattle.expr_reader.specs.Bindings.{terms_under}
 use Rattle.expr_reader.specs.Request as text
 use Rattle.expr_reader.specs.declared.request.Request.{Request}
 
+-- a `Request` of the code, as what its text asks for
 abbrev pub asked_under : Request → text.Asked
 asked_under r =
     record {
@@ -18,7 +19,7 @@ asked_under r =
       term = term_of r.expr;
     }
 
--- without bindings its expression is over its inputs alone
+-- the request has no bindings, so its expression is over its inputs alone
 pub record IsUnbound (r : Request) : Type 0 where
   pub bindings : r.bindings.items ≡ []
   pub has_inputs : IsTrue (has_inputs (term_of r.expr) (length r.inputs.tensors))

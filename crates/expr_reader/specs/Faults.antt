@@ -1,4 +1,4 @@
--- The faults of a request text.
+-- The numbers and names of the faults.
 use Rattle.std.specs.Prelude.{ℕ, List, codes}
 use Rattle.tensor_ops.specs.ExprFault.{ExprFault}
 use Rattle.tensor_ops.specs.ExprFault.TheVariants as expr
@@ -33,7 +33,7 @@ fault_number f = (number_and_name f).0
 abbrev pub fault_name : Fault → List ℕ
 fault_name f = (number_and_name f).1
 
--- the fault of a text whose expression has this one
+-- the fault of a request whose expression has this fault
 abbrev pub text_fault : ExprFault → Fault
 text_fault expr.ShapeMismatch = ShapeMismatch
 text_fault expr.OutOfRange = OutOfRange

@@ -1,4 +1,4 @@
--- A frame's header with the values written into it: the text that asks for the same.
+-- The text that a frame means: its header, with the values written into each tensor's `data`.
 use Rattle.std.specs.Prelude.{ℕ, ℤ, nat_le, List, [], ◌∷◌, length, take, drop, codes}
 use Rattle.std.specs.Prelude.{Option, Some, None, option_map, option_and_then, if◌then◌else◌}
 use Rattle.std.specs.Str.{bytes_eq}
@@ -14,14 +14,14 @@ abbrev pub numbers_of : List ℤ → Items
 numbers_of [] = no_items
 numbers_of (v ∷ vs) = item (number (of_integer v)) (numbers_of vs)
 
--- an object of these values and dims
+-- an object of exactly these dims and this data
 abbrev pub tensor_of : Data → List ℤ → Data
 tensor_of dims values =
     object
     (member (codes "data") (array (numbers_of values)) (member (codes "dims") dims no_members))
 
--- the object of exactly these dims, with the first of the values, where there are as many as the
--- dims have places; and how many those are
+-- the tensor with the first of the values as its data, if there is a value for each place of its
+-- dims; and how many these values are
 abbrev pub filled_tensor : List ℤ → Data → Option (ℕ × Data)
 filled_tensor values d =
     option_and_then (λ dims. option_and_then (λ sizes.
@@ -29,25 +29,26 @@ filled_tensor values d =
     then Some (size_of sizes, tensor_of dims (take (size_of sizes) values))
     else None) (list_in whole_of dims)) (dims_alone d)
 
--- no members, where no values are left for any
+-- no members, if no values are left
 abbrev pub none_to_fill : List ℤ → Option Members
 none_to_fill [] = Some no_members
 none_to_fill (v ∷ vs) = None
 
--- each member with its values: those that it leaves are of the members behind it
+-- each member with its values in it. A member takes the first values, and leaves the others to the
+-- members after it; none may be left
 abbrev pub filled_members : List ℤ → Members → Option Members
 filled_members values no_members = none_to_fill values
 filled_members values (member name d ms) =
     option_and_then (λ f. option_map (member name f.1) (filled_members (drop f.0 values) ms))
     (filled_tensor values d)
 
--- members with other data at this name
+-- the members, with other data in the member of this name
 abbrev pub with_other : List ℕ → Data → Members → Members
 with_other name other no_members = no_members
 with_other name other (member key d ms) =
     member key (if bytes_eq name key then other else d) (with_other name other ms)
 
--- an object with these inputs
+-- an object with other members in its field `inputs`
 abbrev pub with_inputs : Members → Data → Data
 with_inputs inputs null = null
 with_inputs inputs (boolean b) = boolean b
@@ -56,7 +57,7 @@ with_inputs inputs (string s) = string s
 with_inputs inputs (array ds) = array ds
 with_inputs inputs (object ms) = object (with_other (codes "inputs") (object inputs) ms)
 
--- the text of a header and values, where there are as many as all its tensors' dims have places
+-- the text of a header and values, if there are as many values as all tensors have places
 abbrev pub filled_text : List ℤ → Data → Option Data
 filled_text values d =
     option_and_then (λ f. option_and_then (λ ms.

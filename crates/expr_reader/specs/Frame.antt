@@ -1,5 +1,6 @@
--- What a frame asks for: a header, which is a text in which each tensor is its dims alone, and the
--- tensors' values behind it, those of one tensor after those of another, in the order of the names.
+-- What a frame asks for. A frame is a header, which is a text in which each tensor is an object of
+-- its dims alone, and the values after it. The values of the tensors follow one another in the
+-- order of the tensors' names.
 use Rattle.std.specs.Prelude.{ℕ, ℤ, nat_lt, nat_le, List, [], ◌∷◌, length, take, drop, codes}
 use Rattle.std.specs.Prelude.{Option, Some, None, option_map, option_and_then, Result, Err}
 use Rattle.std.specs.Prelude.{if◌then◌else◌}
@@ -18,41 +19,43 @@ use Rattle.expr_reader.specs.Tensors.{Named, dims_in, named_by, or_place}
 use Rattle.expr_reader.specs.declared.fault.Fault.{Fault}
 use Rattle.expr_reader.specs.declared.fault.Fault.TheVariants.{TooLong}
 
--- what stands at `dims`, in an object of nothing else
+-- the data of the field `dims`, in an object without other fields
 abbrev pub dims_alone : Data → Option Data
 dims_alone d = if has_members 1 d then get (codes "dims") d else None
 
--- the first of the values, as many as the dims have places
+-- a tensor of these dims that has the first of the values, if there are enough
 abbrev pub dealt : List ℤ → List ℕ → Option Contents
 dealt values dims =
     if nat_le (size_of dims) (length values)
     then Some (record { dims = dims; values = take (size_of dims) values })
     else None
 
--- an object of exactly dims, with the first of the values
+-- the tensor of an object of exactly dims, with the first of the values
 abbrev pub framed_tensor : Bounds → List ℤ → Data → Option Contents
 framed_tensor bounds values d =
     option_and_then (λ dims. option_and_then (dealt values) (dims_in bounds dims)) (dims_alone d)
 
--- no tensors, where no values are left for any
+-- no tensors, if no values are left
 abbrev pub none_left : List ℤ → Option (List Contents)
 none_left [] = Some []
 none_left (v ∷ vs) = None
 
--- the tensor of each member, in the members' order; those behind it have the values that it leaves
+-- the tensor of each member, in the members' order. A member takes the first values, and leaves the
+-- others to the members after it; none may be left
 abbrev pub framed_tensors : Bounds → List ℤ → Members → Option (List Contents)
 framed_tensors bounds values no_members = none_left values
 framed_tensors bounds values (member name d ms) =
     option_and_then (λ t. option_map (λ ts. t ∷ ts)
     (framed_tensors bounds (drop (length t.values) values) ms)) (framed_tensor bounds values d)
 
--- the place of the first member that is no tensor
+-- the way to the first member that is no tensor
 abbrev pub bad_framed : Bounds → List ℤ → Members → List Step
 bad_framed bounds values no_members = []
 bad_framed bounds values (member name d ms) =
     option_map_or (λ t. bad_framed bounds (drop (length t.values) values) ms)
     (framed_tensor bounds values d) (field name ∷ [])
 
+-- the names and tensors of a frame's inputs, within bounds
 abbrev pub framed_in : List ℤ → Bounds → Data → Option Named
 framed_in values bounds d = named_by (framed_tensors bounds values) d
 
@@ -60,8 +63,8 @@ framed_in values bounds d = named_by (framed_tensors bounds values) d
 abbrev pub frame_inputs : List ℤ → Bounds → Data → Result Named Located
 frame_inputs values bounds d = or_place (bad_framed bounds values) d (framed_in values bounds d)
 
--- how many values may stand behind a header: as its version says, or as the first does where it has
--- no version
+-- how many values may follow a header: the limit of its version, or of version 1 if it has no
+-- known version
 abbrev pub values_limit : List ℕ → ℕ
 values_limit header =
     option_map_or (λ p. p.values)

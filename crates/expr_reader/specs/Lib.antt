@@ -1,6 +1,7 @@
 pub use Rattle.tensor_ops.specs.Index
 pub use Rattle.tensor_ops.specs.Legal
 pub use Rattle.tensor_ops.specs.Contents
+pub use Rattle.tensor_ops.specs.Facts
 pub use Rattle.tensor_ops.specs.Movement
 pub use Rattle.tensor_ops.specs.Shaped
 pub use Rattle.tensor_ops.specs.Term

@@ -1,4 +1,4 @@
--- A place of the code, as the steps to it.
+-- A `Place` of the code, as the steps down to it.
 use Rattle.std.specs.Prelude.{List, [], ◌∷◌, codes}
 use Rattle.expr_reader.specs.Place as text
 use Rattle.expr_reader.specs.Place.{Step, field, way_of}

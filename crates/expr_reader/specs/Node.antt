@@ -1,7 +1,7 @@
--- The tree of an expression: the term that it names, or the first fault on a walk over it and where
--- it is. At a node the walk looks at its number, its operation, how many elements stand after it,
--- its operands from the left and each wholly, its arguments, and its own checks, in this order. A
--- node's elements count from its operation's name, which has the index 0.
+-- The tree of an expression: its term, or the first fault on a walk over it and the place of the
+-- fault. At each node the walk checks, in this order: the number of nodes, the operation, the
+-- number of elements, each operand from the left with all its checks, the arguments, and the dims.
+-- The elements of a node are counted from its operation's name, which has the index 0.
 use Rattle.std.specs.Prelude.{ℕ, ◌+◌, ◌==◌, nat_le, List, Result, Err}
 use Rattle.std.specs.Prelude.{ok_or, option_map, option_and_then, if◌then◌else◌}
 use Rattle.std.specs.Result.{result_map_both}
@@ -21,42 +21,46 @@ use Rattle.expr_reader.specs.Tensors.{Named, number_of}
 use Rattle.expr_reader.specs.declared.fault.Fault.TheVariants.{UnknownInput, UnknownOp, BadArity}
 use Rattle.expr_reader.specs.declared.fault.Fault.TheVariants.{TooLarge}
 
--- a tree that was read: its term, and how many nodes of the text stand up to its end
+-- a tree that was read: its term, and how many nodes the text has up to its end
 pub record Tree : Type 0 where
   pub term : Term
   pub end : ℕ
 
--- what is found of a node behind n others, where it isn't one more than there may be
+-- what was found of a node that has n nodes before it, if the limit of nodes allows one more
 abbrev pub within_limit : {A : Type 0} → Profile → ℕ → Result A Located → Result A Located
 within_limit profile n found = if nat_le profile.nodes n then Err (here TooLarge) else found
 
--- the operation that the first of a node's elements names
+-- the operation that the first element of a node names
 abbrev pub operation_at : Profile → Data → Result Operation Located
 operation_at profile head =
     ok_or (option_and_then (λ name. operation_named name profile.operations) (as_str head))
     (at (index 0) UnknownOp)
 
--- a name, up to this end: the input of its number
+-- the tensor that a name stands for. `end` is the number of nodes up to and including the name
 abbrev pub input_at : Named → List ℕ → ℕ → Result Tree Located
 input_at named name end =
     ok_or (option_map (λ k. record { term = input k; end = end }) (number_of named.names name))
     (here UnknownInput)
 
--- a term whose operands have result dims, up to this end, or the first of its own faults
+-- a term whose operands have result dims, if it has result dims too. `end` is the number of nodes
+-- up to its end
 abbrev pub checked : Given → Term → ℕ → Result Tree Located
 checked inputs t end =
     result_map_both (λ dims. record { term = t; end = end }) (λ fault. here (text_fault fault))
     (dims_of inputs.bounds t inputs.tensors)
 
--- what arguments of these forms make, the first of which has this index, up to this end
+-- the term that `make` builds from arguments of these forms, or the first fault of the arguments or
+-- the dims. `first` is the index of the first argument, `end` the number of nodes up to the term's
+-- end
 abbrev pub made : Given → (fs : List Form) → ℕ → Items → (Arguments fs → Term) → ℕ
     → Result Tree Located
 made inputs fs first items make end =
     and_then (arguments_at first fs items) (λ a. checked inputs (make a) end)
 
 module _ (profile : Profile) (named : Named) where
-  -- the term that arguments of these forms make, the first of which has this index, up to this end,
-  -- or the first fault of the arguments, or of the term's own, whose operands have result dims
+  -- the term that `make` builds from arguments of these forms, or the first fault of the arguments
+  -- or the dims. `first` is the index of the first argument, `end` the number of nodes up to the
+  -- term's end; its operands have result dims
   abbrev pub made_of : (fs : List Form) → ℕ → Items → (Arguments fs → Term) → ℕ
       → Result Tree Located
   made_of fs first items make end =
@@ -65,7 +69,7 @@ module _ (profile : Profile) (named : Named) where
       (dims_of profile.bounds (make a) named.tensors))
 
   abbrev mutual
-    -- a node behind n others: a name, or an operation by its name
+    -- a node that has n nodes before it: a name, or an operation by its name
     pub node_at : ℕ → Data → Result Tree Located
     node_at n (string name) = input_at named name (n + 1)
     node_at n (array (item head rest)) =
@@ -73,7 +77,8 @@ module _ (profile : Profile) (named : Named) where
         if items_len rest == arity_of o then applied n o rest else Err (here BadArity))
     node_at n d = Err (here UnknownOp)
 
-    -- its operands from the left, each wholly, then its arguments, and then its own checks
+    -- the elements after an operation's name: operands from the left, each with all its checks,
+    -- and then arguments
     pub applied : ℕ → Operation → Items → Result Tree Located
     applied n (one forms make) (item a rest) =
         and_then (below (index 1) (within_limit profile (n + 1) (node_at (n + 1) a))) (λ x.
@@ -89,6 +94,6 @@ module _ (profile : Profile) (named : Named) where
         made_of forms 4 rest (λ args. ternary (make args) x.term y.term z.term) z.end)))
     applied n o rest = Err (here BadArity)
 
-  -- a tree behind n nodes
+  -- a tree that has n nodes before it
   abbrev pub tree_at : ℕ → Data → Result Tree Located
   tree_at n d = within_limit profile n (node_at n d)

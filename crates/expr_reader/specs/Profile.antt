@@ -1,4 +1,4 @@
--- What the versions of texts and of frames allow.
+-- The limits and operations of each version of texts and frames.
 use Rattle.std.specs.Prelude.{ℕ, List, [], ◌∷◌, Bool, true, false, Option, Some, None, ◌==◌}
 use Rattle.std.specs.Prelude.{if◌then◌else◌}
 use Rattle.std.specs.Str.{bytes_eq}
@@ -8,9 +8,9 @@ use Rattle.expr_reader.specs.Limits.{greatest_block, widest_block, most_nodes, w
 use Rattle.expr_reader.specs.Limits.{most_values, widest_values}
 use Rattle.expr_reader.specs.Table.{Operation, operations_1, operations_2, operations_3}
 
--- the greatest number of workers and of places of a block, how large tensors get, how many nodes an
--- expression has and how many values stand behind a header at most, whether tensors are given names
--- in an expression, and the operations by their names
+-- what a version allows: the greatest number of workers and of places in a block, the bounds of
+-- dims, the most nodes of an expression, the most values after a header, whether an expression may
+-- have bindings, and the operations by name
 pub record Profile : Type 0 where
   pub workers : ℕ
   pub block : ℕ
@@ -53,20 +53,20 @@ version_3 = record {
   operations = operations_3;
 }
 
--- what the version of a number allows, where there is such a version
+-- the profile of each version number, if there is such a version
 abbrev pub Versions : Type 0
 Versions = ℕ → Option Profile
 
--- the versions of a text
+-- the versions of a text: 1 and 2
 abbrev pub profile_of : ℕ → Option Profile
 profile_of version =
     if version == 1 then Some version_1 else (if version == 2 then Some version_2 else None)
 
--- the versions of a frame: those of a text, and the third
+-- the versions of a frame: 1, 2 and 3
 abbrev pub frame_profile_of : Versions
 frame_profile_of version = if version == 3 then Some version_3 else profile_of version
 
--- the operation of a name, among those of a version
+-- the operation with this name, in a table of operations
 abbrev pub operation_named : List ℕ → List (List ℕ × Operation) → Option Operation
 operation_named name [] = None
 operation_named name (o ∷ os) = if bytes_eq name o.0 then Some o.1 else operation_named name os

@@ -18,8 +18,8 @@ use Rattle.expr_reader.specs.declared.fault.Fault.{Fault}
 use Rattle.expr_reader.specs.declared.fault.Fault.TheVariants.{TooLong, NotJson, BadField}
 use Rattle.expr_reader.specs.declared.fault.Fault.TheVariants.{BadVersion, BadWorkers, BadBlock}
 
--- what a text asks for: a term over inputs and, behind them, over the tensors of its bindings, each
--- worked out over all before it; results are within these bounds
+-- what a text asks for: a term over the inputs and the tensors of the bindings. A binding is
+-- evaluated over the inputs and the bindings before it; all results are within `bounds`
 pub record Asked : Type 0 where
   pub workers : ℕ
   pub block : ℕ
@@ -28,28 +28,28 @@ pub record Asked : Type 0 where
   pub bindings : List Term
   pub term : Term
 
--- the inputs, and behind them the tensors of the bindings
+-- the inputs, and after them the tensors of the bindings
 abbrev pub tensors_of : Asked → List Contents
 tensors_of a = worked_out a.bindings a.inputs
 
--- the tensor that is asked for
+-- the tensor that is asked for: the answer
 abbrev pub asked_tensor : Asked → Contents
 asked_tensor a = tensor_of a.term (tensors_of a)
 
--- what the version allows
+-- the profile of the version that the fields name
 abbrev pub profile_in : Versions → Fields → Option Profile
 profile_in versions f = option_and_then versions (whole_of f.version)
 
--- the version of data that has the five fields
+-- the number of the version, in data that has the five fields
 abbrev pub version_in : Data → Option ℕ
 version_in d = option_and_then (λ f. whole_of f.version) (fields_of d)
 
--- what inputs are read as, within bounds: names and tensors, or their fault
+-- how the inputs are read, within bounds: their names and tensors, or their fault
 abbrev pub Naming : Type 0
 Naming = Bounds → Data → Result Named Located
 
 module _ (versions : Versions) (named : Naming) where
-  -- what fields ask for: each is looked at where those before it have no fault
+  -- what the five fields ask for. They are checked in this order; the first fault counts
   abbrev pub fields_asked : Fields → Result Asked Located
   fields_asked f =
       and_then (ok_or (profile_in versions f) (at (field (codes "version")) BadVersion)) (λ p.
@@ -68,22 +68,23 @@ module _ (versions : Versions) (named : Naming) where
         term = found.tree.term;
       }))))))
 
-  -- what data asks for: it has to have the five fields
+  -- what data asks for, if it is an object of exactly the five fields
   abbrev pub data_asked : Data → Result Asked Located
   data_asked d = and_then (ok_or (fields_of d) (here BadField)) fields_asked
 
--- what data asks for with another expression in the place of its own
+-- what data asks for, with another expression in place of its own
 abbrev pub part_asked : Data → Data → Result Asked Located
 part_asked d expr =
     and_then (ok_or (fields_of d) (here BadField))
     (λ f. fields_asked profile_of inputs_in (record f { expr = expr }))
 
--- the data of a text, where it is not too long and has a reading
+-- the data of a text, if the text is not too long and is JSON
 abbrev pub data_of : List ℕ → Result Data Located
 data_of text =
     if nat_lt most_bytes (length text) then Err (here TooLong)
     else ok_or (reading text) (here NotJson)
 
+-- what the bytes of a text ask for
 abbrev pub text_asked : Versions → Naming → List ℕ → Result Asked Located
 text_asked versions named text = and_then (data_of text) (data_asked versions named)
 

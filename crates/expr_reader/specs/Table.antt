@@ -1,4 +1,4 @@
--- The operations of the text, as a table: what each takes, and what is made of it.
+-- The table of operations by name: the operands and arguments of each, and the term that they make.
 use Rattle.std.specs.Prelude.{ℕ, ◌+◌, length, List, [], ◌∷◌, ◌++◌, take, drop, codes}
 use Rattle.tensor_ops.specs.Term.{Unary, each, constant, movement, pad, reduce, along}
 use Rattle.tensor_ops.specs.Term.{Binary, pairwise, concat, contract, convolve, taking}
@@ -14,7 +14,8 @@ use Rattle.tensor_ops.specs.Reducer.{Reducer}
 use Rattle.tensor_ops.specs.Reducer.TheVariants.{Sum, Prod, Max, Min, All, Any}
 use Rattle.expr_reader.specs.Arguments.{Form, size, sizes, pairs, flags, value, Arguments}
 
--- the number of operands, the forms of the arguments behind them, and what these make
+-- an operation with one, two or three operands: the forms of the arguments after them, and what
+-- the arguments make
 pub data Operation : Type 0 where
   one : (forms : List Form) → (Arguments forms → Unary) → Operation
   two : (forms : List Form) → (Arguments forms → Binary) → Operation
@@ -26,23 +27,24 @@ arity_of (one forms make) = 1 + length forms
 arity_of (two forms make) = 2 + length forms
 arity_of (three forms make) = 3 + length forms
 
--- the operations on each value, and on each two
+-- an operation on each value
 abbrev pub on_each : UnaryScalar → Operation
 on_each o = one [] (λ none. each o)
 
+-- an operation on each two values at one place
 abbrev pub on_pairs : BinaryScalar → Operation
 on_pairs o = two [] (λ none. pairwise o)
 
--- the reductions over axes
+-- a reduction over axes
 abbrev pub over_axes : Reducer → Operation
 over_axes r = one (sizes ∷ []) (λ a. reduce r a.0)
 
--- the operations along one axis
+-- an operation along one axis
 abbrev pub along_axis : LineOperation → Operation
 along_axis o = one (size ∷ []) (λ a. along o a.0)
 
--- the operations of the first version, by their names: those that work each value out from those at
--- its own place, the movements, the reductions and the contraction
+-- the operations of version 1 by name: those on the values at one place, the movements, the
+-- reductions and the contraction
 abbrev pub operations_1 : List (List ℕ × Operation)
 operations_1 =
     (codes "neg", on_each unary.Neg)
@@ -78,7 +80,7 @@ operations_1 =
     ∷ (codes "any", over_axes Any)
     ∷ (codes "contract", two (pairs ∷ []) (λ a. contract a.0)) ∷ []
 
--- the operations of the second version: all of the first, and these
+-- the operations of version 2: those of version 1, and these
 abbrev pub operations_2 : List (List ℕ × Operation)
 operations_2 = operations_1
     ++ ((codes "stride", one (sizes ∷ []) (λ a. movement (stride a.0)))
@@ -86,8 +88,7 @@ operations_2 = operations_1
     ∷ (codes "concat", two (size ∷ []) (λ a. concat a.0))
     ∷ (codes "convolve", two (sizes ∷ []) (λ a. convolve a.0)) ∷ [])
 
--- the operations of the third version: all of the second, these on whole numbers, and those along
--- one axis
+-- the operations of version 3: those of version 2, these on integers, and these along one axis
 abbrev pub operations_3 : List (List ℕ × Operation)
 operations_3 = operations_2
     ++ ((codes "floor_divide", on_pairs binary.FloorDivide)
@@ -104,23 +105,26 @@ operations_3 = operations_2
     ∷ (codes "argmin", along_axis Argmin)
     ∷ (codes "take", two (size ∷ []) (λ a. taking a.0)) ∷ [])
 
--- parts of these: the first 19, the 6 behind them, and the rest of the first version's
+-- the operations of version 1 that compute each value from the values at one place
 abbrev pub operations_on_values : List (List ℕ × Operation)
 operations_on_values = take 19 operations_1
 
+-- the movements of version 1
 abbrev pub movements : List (List ℕ × Operation)
 movements = take 6 (drop 19 operations_1)
 
+-- the operations of version 1 that combine values along axes
 abbrev pub operations_along_axes : List (List ℕ × Operation)
 operations_along_axes = drop 25 operations_1
 
--- those that the second version has beside them
+-- the operations that version 2 adds
 abbrev pub operations_added : List (List ℕ × Operation)
 operations_added = drop 32 operations_2
 
--- and those that the third has beside these: 8 on whole numbers, and the rest
+-- the operations on integers that version 3 adds
 abbrev pub operations_on_integers : List (List ℕ × Operation)
 operations_on_integers = take 8 (drop 36 operations_3)
 
+-- the operations along one axis that version 3 adds
 abbrev pub operations_along_one_axis : List (List ℕ × Operation)
 operations_along_one_axis = drop 44 operations_3

@@ -1,4 +1,6 @@
-//! The arguments of operations.
+//! Reads the arguments of an operation and builds its expression. An operation of the tables in
+//! `version.rt` has an arm here; the number of its arguments is `arguments` in `operation.rt`, and
+//! `forms_of` in the specs.
 
 ghost use Rattle.std.specs.Prelude.{◌≡◌, ◌≤◌, [], length, ok_or, OnOk};
 ghost use Rattle.serde_json.specs.View.{view, items_view};
@@ -19,7 +21,8 @@ use serde_json::Value;
 use std::alloc::Global;
 use tensor_ops::Expr;
 
-/// An operation on one operand, with the arguments behind it: the elements from index 2 on.
+/// Builds an operation on one operand from its arguments, which are the elements of its node from
+/// index 2 on. On a fault, `way` gets the index of the bad argument.
 pub(crate) fn with_arguments(
     alloc: Global,
     operation: Unary,
@@ -87,7 +90,8 @@ pub(crate) fn with_arguments(
     }
 }
 
-/// An operation on two operands, with the arguments behind them: the elements from index 3 on.
+/// Builds an operation on two operands from its arguments, which are the elements of its node from
+/// index 3 on. On a fault, `way` gets the index of the bad argument.
 pub(crate) fn both_with_arguments(
     alloc: Global,
     operation: Binary,
@@ -126,7 +130,8 @@ pub(crate) fn both_with_arguments(
     }
 }
 
-/// An argument that is one item, at this index among the elements.
+/// Reads an argument that is one item. `position` is its index in the node, which `way` gets on a
+/// fault.
 fn item_at<T: Item>(argument: &Value, position: u8, way: &mut Indices) -> Result<T, Fault>
     requires { way.old.items ≡ [] }
     ensures item { IsReadAt (λ item. item)
@@ -144,7 +149,8 @@ fn item_at<T: Item>(argument: &Value, position: u8, way: &mut Indices) -> Result
     }
 }
 
-/// An argument that is a list of items, at this index among the elements.
+/// Reads an argument that is a list of items. `position` is its index in the node, which `way` gets
+/// on a fault.
 fn list_at<T: Item>(
     alloc: Global,
     argument: &Value,

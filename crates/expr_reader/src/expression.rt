@@ -1,5 +1,6 @@
-//! The expression of a request: bindings, each a tree whose tensor is given a name, and then a tree
-//! in which all those names are known.
+//! Reads the expression of a request: bindings (`let`), each of which gives the tensor of a tree a
+//! name, and then a tree in which all these names are known. What is read is defined in
+//! `specs/Expression`.
 
 ghost use Rattle.std.specs.Prelude.{◌≡◌, ◌+◌, ◌-◌, ◌≤◌, [], length};
 ghost use Rattle.serde_json.specs.View.{view};
@@ -19,12 +20,13 @@ use crate::version::Version;
 use serde_json::Value;
 use std::alloc::Global;
 
-/// How many elements a node has that gives a tensor a name: its operation, the name, the tree of the
-/// tensor, and the expression in which it has the name.
+/// How many elements the node of a `let` has: the word `let`, the name, the tree of the tensor, and
+/// the expression in which the tensor has the name.
 const LET_LEN: usize = 4;
 
-/// The tree of an expression that has `before` nodes of the text before it. The bindings before it go
-/// behind those that there are. The way to a fault is made only where there is one, from its end up.
+/// Reads an expression that has `before` nodes of the text before it. Its bindings are appended to
+/// `named`, and its tree is returned. On a fault, `way` gets the indices of the elements on the way
+/// to it, the innermost first.
 pub(crate) fn read_expression<'v>(
     alloc: Global,
     version: Version,
@@ -73,7 +75,7 @@ pub(crate) fn read_expression<'v>(
     }
 }
 
-/// Whether a node gives a tensor a name.
+/// Returns whether a node is a `let`.
 fn is_binding(version: Version, value: &Value) -> bool
     ensures { result ≡ is_binding (profile_under version) (view value.now) }
 {

@@ -1,24 +1,28 @@
-//! The faults of a request text.
+//! The faults of requests. A change of a fault, its number or its name also changes
+//! `specs/Faults`, the table of faults in docs/REQUEST.md, and `python/tensor_client/faults.py`.
 
 ghost use Rattle.std.specs.Prelude.{◌≡◌};
 
 use tensor_ops::ExprFault;
 use thiserror::Error;
 
-/// Why a text has no answer. The variants stand in the order of their numbers, 1 to 15. Faults 1 to
-/// 7 are looked for in this order, then 8 to 14 on one walk over the expression's tree.
+/// Why a request has no answer. The variants are in the order of their numbers, 1 to 15. Faults 1
+/// to 7 are checked in this order, then 8 to 14 on one walk over the expression's tree. `NoMemory`
+/// may come before any of them.
 #[derive(Clone, Copy, Debug, Drop, Eq, PartialEq, Error)]
 pub enum Fault {
-    /// More than 16,777,216 bytes.
+    /// The text has more than 16,777,216 bytes, or a header has more values after it than its
+    /// version allows.
     #[error("the text is too long")]
     TooLong = 1,
-    /// No JSON value: bad UTF-8, nesting past 127, text after the value, no text at all.
+    /// The text is not JSON: bad UTF-8, arrays and objects nested deeper than 127, text after the
+    /// value, or no text at all.
     #[error("the text is not JSON")]
     NotJson = 2,
-    /// Not an object, a field missing, or one too many.
+    /// The value is not an object, or a field is missing, or there is another field.
     #[error("the fields are not those of a request")]
     BadField = 3,
-    /// A version that is not known.
+    /// The version is not known.
     #[error("the version is not known")]
     BadVersion = 4,
     /// The number of workers is out of range.
@@ -27,31 +31,31 @@ pub enum Fault {
     /// The block is out of range.
     #[error("the block is out of range")]
     BadBlock = 6,
-    /// An input is no tensor.
+    /// An input is not a tensor, or has more or fewer values than its dims have places.
     #[error("an input is no tensor")]
     BadTensor = 7,
-    /// A name that is no input's.
+    /// A name in the expression is neither an input nor a binding.
     #[error("a name is no input's")]
     UnknownInput = 8,
-    /// A node that is neither a name nor an operation of the version.
+    /// A node is neither a name nor an operation of the version.
     #[error("a node is no operation")]
     UnknownOp = 9,
-    /// The number of operands and arguments is not the operation's.
+    /// A node has another number of operands and arguments than its operation takes.
     #[error("an operation has too many or too few elements")]
     BadArity = 10,
-    /// An argument is not of its form.
+    /// An argument does not have the form that the operation takes.
     #[error("an argument is not of its form")]
     BadArgument = 11,
-    /// Dims, or numbers of them, that should be equal are not.
+    /// Dims that have to be equal differ, or a list has more or fewer elements than there are axes.
     #[error("the shapes do not match")]
     ShapeMismatch = 12,
-    /// An argument names an axis or an index that is not there.
+    /// An argument names an axis or an index that does not exist.
     #[error("an argument is out of range")]
     OutOfRange = 13,
-    /// A result, the work for it, or the number of nodes is past the limits.
+    /// A result, the work for it, or the number of nodes is above the limit.
     #[error("the expression is too large")]
     TooLarge = 14,
-    /// A growth of memory was refused.
+    /// An allocation failed.
     #[error("there is no memory")]
     NoMemory = 15,
 }
@@ -59,14 +63,14 @@ pub enum Fault {
 impl Fault {
     ghost use Rattle.expr_reader.specs.Faults.{fault_number, fault_name};
 
-    /// The number, from 1 to 15.
+    /// Returns the fault's number, from 1 to 15.
     pub fn number(self) -> u32
         ensures { result ≡ fault_number self }
     {
         self as u32
     }
 
-    /// The name, as the answer line has it.
+    /// Returns the fault's name, as the line of an answer has it.
     pub fn name(self) -> &'static str
         ensures { result.now ≡ fault_name self }
     {

@@ -1,4 +1,5 @@
-//! The parse of a text, its fields, and the whole numbers in it.
+//! Parses a text into a JSON value, and takes the five fields out of it. `specs/Fields` defines
+//! both; a new field changes `Fields` in both places and `fields_asked` in `specs/Request`.
 
 ghost use Rattle.std.specs.Prelude.{◌≡◌, ◌≤◌, IfSome, option_map};
 ghost use Rattle.serde_json.specs.View.{view};
@@ -9,7 +10,7 @@ use crate::fault::Fault;
 use serde_json::Value;
 use std::alloc::Global;
 
-/// The value that a text is.
+/// Parses a text as one JSON value.
 pub(crate) fn parse(alloc: Global, text: &[u8]) -> Result<Value, Fault>
     ensures { IsReadOr Fault.NotJson view (reading text.now) result }
 {
@@ -23,7 +24,7 @@ pub(crate) fn parse(alloc: Global, text: &[u8]) -> Result<Value, Fault>
     }
 }
 
-/// Whether it is an object of this many members.
+/// Returns whether a value is an object with `count` members.
 pub(crate) fn has_members(value: &Value, count: usize) -> bool
     ensures { result ≡ has_members count (view value.now) }
 {
@@ -33,7 +34,7 @@ pub(crate) fn has_members(value: &Value, count: usize) -> bool
     }
 }
 
-/// A whole number within these bounds.
+/// Returns a whole number in `[least, most]`, or `None` if the value is no such number.
 pub(crate) fn within(value: &Value, least: u64, most: u64) -> Option<u64>
     ensures value { result ≡ within least most (view value.now) }
     ensures bounds { IfSome result (λ number. (least ≤ number) × (number ≤ most)) }
@@ -46,7 +47,7 @@ pub(crate) fn within(value: &Value, least: u64, most: u64) -> Option<u64>
     }
 }
 
-/// The five fields of a request.
+/// The values of the five fields of a request, as JSON.
 #[derive(Drop)]
 pub(crate) struct Fields<'v> {
     pub(crate) version: &'v Value,
@@ -59,7 +60,7 @@ pub(crate) struct Fields<'v> {
 impl<'v> Fields<'v> {
     ghost use Rattle.expr_reader.specs.private.Shown.{fields_under};
 
-    /// The fields of an object that has exactly these.
+    /// Returns the fields of an object that has exactly these five.
     pub(crate) fn of(value: &'v Value) -> Option<Fields<'v>>
         ensures { option_map fields_under result ≡ fields_of (view value.now) }
     {

@@ -1,4 +1,5 @@
-//! Lists of one kind of item.
+//! Lists of items of one type: sizes, values, flags or pairs of sizes. Another form of argument is
+//! another `impl Item`, and a `Form` in `specs/Arguments`.
 
 ghost use Rattle.std.specs.Prelude.{◌≡◌, Option};
 ghost use Rattle.serde_json.specs.Data.{Data};
@@ -12,16 +13,16 @@ use crate::fields::within;
 use serde_json::Value;
 use std::alloc::Global;
 
-/// What a list may hold.
+/// A type that a JSON value may be read as, alone or in a list.
 pub(crate) trait Item: Copy {
     ghost item_in: { Data → Option Self };
 
-    /// The item that a value is.
+    /// Returns the item that a value is, or `None` if it is not one.
     fn of(value: &Value) -> Option<Self>
         ensures { result ≡ item_in (view value.now) };
 }
 
-/// A size.
+/// A size is a whole number from 0 to [`MAX_SIZE`].
 impl Item for u64 {
     ghost use Rattle.expr_reader.specs.Arguments.{size_in};
 
@@ -32,7 +33,7 @@ impl Item for u64 {
     }
 }
 
-/// A value of a tensor.
+/// A value of a tensor is a whole number of the `i64` range.
 impl Item for i64 {
     ghost use Rattle.expr_reader.specs.Fields.{signed_of};
 
@@ -43,7 +44,7 @@ impl Item for i64 {
     }
 }
 
-/// A flag.
+/// A flag is `true` or `false`.
 impl Item for bool {
     ghost use Rattle.serde_json.specs.Find.{as_bool};
 
@@ -54,7 +55,7 @@ impl Item for bool {
     }
 }
 
-/// Two sizes.
+/// A pair is an array of two sizes.
 impl Item for (u64, u64) {
     ghost use Rattle.expr_reader.specs.Arguments.{pair_in};
 
@@ -68,14 +69,15 @@ impl Item for (u64, u64) {
     }
 }
 
-/// The item that a value is, or this fault where it is none.
+/// Reads an item. A value that is not one has the given fault.
 pub(crate) fn read_item<T: Item>(value: &Value, fault: Fault) -> Result<T, Fault>
     ensures { IsReadOr fault (λ item. item) (T.item_in (view value.now)) result }
 {
     T::of(value).ok_or(fault)
 }
 
-/// The items of a list, or this fault where it is no list of them.
+/// Reads an array of items. A value that is no array, or has an element that is no item, has the
+/// given fault.
 pub(crate) fn read_list<T: Item>(
     alloc: Global,
     value: &Value,

@@ -1,4 +1,6 @@
-//! What a frame has to do with a text, and arrays with a frame.
+//! Laws of frames and of headers with arrays: which other request means the same as theirs. Each
+//! function does nothing, and its contract is the law. The laws rest on `specs/Frame`, `Arrays` and
+//! `Filled`.
 
 ghost use Rattle.std.specs.Prelude.{◌≡◌, ◌≢◌, ℕ, ℤ, List, length, map, Some, None, Err, FitsSigned};
 ghost use Rattle.std.specs.Int.{w64};
@@ -15,8 +17,8 @@ ghost use Rattle.expr_reader.specs.Tensors.{inputs_in};
 
 use crate::fault::Fault;
 
-/// A frame asks for what the text does that has each tensor's values in its `data`, and it has the
-/// same fault, whichever versions there are.
+/// A frame asks for the same as the text that has the frame's values in the `data` of its tensors,
+/// and has the same fault. This holds for any set of versions.
 pub fn frames_mean_texts()
     ensures { (versions : Versions) (header text : Data) (values : List ℤ)
         → All (FitsSigned w64) values → filled_text values header ≡ Some text
@@ -24,24 +26,24 @@ pub fn frames_mean_texts()
         ≡ unlocated (data_asked versions inputs_in text) }
 {}
 
-/// Of the versions that a text has, a frame is read as a text: where its version is none but a
-/// frame's own, it asks for the same, and has the same fault.
+/// A frame whose version is not 3 asks for the same under the versions of frames as under the
+/// versions of texts, and has the same fault.
 pub fn frames_keep_versions()
     ensures { (named : Naming) (header : Data) → version_in header ≢ Some 3
         → data_asked frame_profile_of named header ≡ data_asked profile_of named header }
 {}
 
-/// Where there is no such text, since the header isn't a request's or the values are more or fewer
-/// than its tensors have places, the frame has the fault of a header whose inputs are no tensors,
-/// or one that comes before it.
+/// If the values of a frame can't be written into its header, the frame has the fault of a header
+/// whose inputs are no tensors, or a fault that comes before it. They can't if the header is no
+/// request, or if its tensors have more or fewer places than there are values.
 pub fn unfilled_headers_have_faults()
     ensures { (versions : Versions) (header : Data) (values : List ℤ) → filled_text values header ≡ None
         → unlocated (data_asked versions (frame_inputs values) header)
         ≡ unlocated (data_asked versions (λ bounds inputs. Err (here Fault.BadTensor)) header) }
 {}
 
-/// Arrays that have as many values as their tensors have places ask for what the frame asks for in
-/// which they stand one behind the other, and have the same fault.
+/// If each array has as many values as its tensor has places, a header with arrays asks for the
+/// same as the frame with all arrays joined, and has the same fault.
 pub fn arrays_mean_frames()
     ensures { (versions : Versions) (header : Data) (arrays : List (List ℤ))
         → header_sizes header ≡ Some (map length arrays)
@@ -49,8 +51,9 @@ pub fn arrays_mean_frames()
         ≡ unlocated (data_asked versions (frame_inputs (joined arrays)) header) }
 {}
 
-/// Other arrays, or more or fewer of them, have the fault of a header whose inputs are no tensors,
-/// or one that comes before it.
+/// If the lengths of the arrays differ from the sizes of the tensors, or there are more or fewer
+/// arrays, the fault is the one of a header whose inputs are no tensors, or one that comes before
+/// it.
 pub fn other_arrays_have_faults()
     ensures { (versions : Versions) (header : Data) (arrays : List (List ℤ))
         → header_sizes header ≢ Some (map length arrays)
@@ -58,8 +61,8 @@ pub fn other_arrays_have_faults()
         ≡ unlocated (data_asked versions (λ bounds inputs. Err (here Fault.BadTensor)) header) }
 {}
 
-/// The values of a frame decide nothing but the values of its inputs: with others, of the same
-/// number, its fault is the same, or its expression and the dims of its inputs.
+/// Two frames with one header and equally many values have the same fault, or requests that differ
+/// in the values of their inputs alone.
 pub fn frames_ask_alike()
     ensures { (header : List ℕ) (values others : List ℤ) → length values ≡ length others
         → AskAlike (request_of_frame header values) (request_of_frame header others) }

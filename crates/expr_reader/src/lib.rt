@@ -1,6 +1,9 @@
-//! Request texts: one JSON value (RFC 8259) that names tensors and an expression over them. A text
-//! is read in one pass, and answered by its request or by its first fault, which has a place in it.
-//! The tensors' values may also stand behind the text, as numbers: the two are a frame.
+//! Reads requests: one JSON value (RFC 8259) that names tensors and an expression over them. The
+//! result is the request, or the first fault and its place in the value. The values of the tensors
+//! may also follow the text as numbers: a frame, or a header with an array for each tensor.
+//!
+//! What is read is defined in `specs/Request`; a change there changes `docs/REQUEST.md` and every
+//! program.
 #![tactic(auto)]
 
 mod arguments;
@@ -35,26 +38,26 @@ pub use text::{
     locate, parse_request, read_arrays, read_frame, read_part, read_request, values_limit,
 };
 
-/// The most bytes of a text.
+/// The largest number of bytes of a text or a header.
 pub const MAX_TEXT: usize = 16_777_216;
 
-/// The most values behind a header of a text's versions.
+/// The largest number of values after a header of version 1 or 2.
 pub const MAX_VALUES: usize = 16_777_216;
 
-/// The most values behind any header.
+/// The largest number of values after any header.
 pub const WIDEST_VALUES: usize = 4_294_967_296;
 
-/// The greatest block of a text.
+/// The largest block of a text.
 pub const MAX_BLOCK: u64 = 1_048_576;
 
-/// The greatest block of any version.
+/// The largest block of any version.
 pub const WIDEST_BLOCK: u64 = 268_435_456;
 
-/// The most nodes of an expression of a text.
+/// The largest number of nodes of a text's expression.
 pub const MAX_NODES: u64 = 1_000;
 
-/// The most nodes of an expression of any version.
+/// The largest number of nodes of an expression of any version.
 pub const WIDEST_NODES: u64 = 10_000;
 
-/// The greatest size that an argument may name.
+/// The largest size that an argument may be.
 pub const MAX_SIZE: u64 = 9_223_372_036_854_775_807;

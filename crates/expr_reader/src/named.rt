@@ -1,4 +1,6 @@
-//! The tensors of a request, by name and by number: its inputs, and behind them those of its bindings.
+//! The tensors of a request by name and by number: the inputs, and then the bindings. `node.rt`
+//! looks names up here, and `expression.rt` adds the bindings; `IsNamed` in `specs/private/Shown`
+//! says what the numbers mean.
 
 ghost use Rattle.std.specs.Prelude.{◌≡◌, ◌+◌, ◌^◌, ◌<◌, ◌≤◌, ◌⊎◌, ◌∷◌, [], ◌++◌, ℕ, List, length};
 ghost use Rattle.std.specs.Prelude.{codes, Some, None, option_map};
@@ -29,8 +31,8 @@ use std::alloc::Global;
 use std::collections::BTreeMap;
 use tensor_ops::{Bounds, Dims, Inputs};
 
-/// Inputs, behind them bindings, and the number of each by its name. A map in order, so that no choice
-/// of names makes it slow.
+/// The inputs, the bindings, and the number of each by its name. The map is ordered and has no
+/// hashes, so no choice of names makes it slow.
 #[derive(Drop)]
 pub(crate) struct NamedInputs<'v, 'a> {
     pub(crate) alloc: Global,
@@ -40,7 +42,8 @@ pub(crate) struct NamedInputs<'v, 'a> {
 }
 
 impl<'v, 'a> NamedInputs<'v, 'a> {
-    /// The tensor of each member of an object, numbered in the order of their names.
+    /// Reads the tensor of each member of an object, and numbers them in the order of their names.
+    /// On a fault, `place` is set to the input or the field that has it.
     pub(crate) fn read(
         alloc: Global,
         value: &'v Value,
@@ -67,7 +70,7 @@ impl<'v, 'a> NamedInputs<'v, 'a> {
         read_members(alloc, members, bounds, values, place)
     }
 
-    /// The number of a name.
+    /// Returns the number of the input or binding with this name.
     pub(crate) fn number(&self, name: &str) -> Option<u32>
         ensures { (bounds : Bounds) (n : Named) → IsNamed self.now bounds n
             → result ≡ number_of n.names name.now }
@@ -75,7 +78,7 @@ impl<'v, 'a> NamedInputs<'v, 'a> {
         self.numbers.get(name).copied()
     }
 
-    /// The dims of the tensor of a number.
+    /// Returns the dims of the tensor with this number.
     pub(crate) fn dims(&self, number: u32) -> &Dims
         requires { number < length self.now.inputs.tensors + length self.now.bindings.items }
         ensures { (bounds : Bounds) (n : Named) → IsNamed self.now bounds n
@@ -88,7 +91,7 @@ impl<'v, 'a> NamedInputs<'v, 'a> {
         &self.bindings[(number - count) as usize].dims
     }
 
-    /// A name that no tensor has yet.
+    /// Returns the name that a JSON string gives, if no input and no binding has it.
     pub(crate) fn new_name(&self, value: &'v Value) -> Option<&'v str>
         ensures { (bounds : Bounds) (n : Named) → IsNamed self.now bounds n
             → option_map (λ name. name.now) result ≡ new_name n (view value.now) }
@@ -100,7 +103,7 @@ impl<'v, 'a> NamedInputs<'v, 'a> {
         Some(name)
     }
 
-    /// Gives the tensor of an expression a name, and the number behind those that there are.
+    /// Appends a binding, and gives it the next number and this name.
     pub(crate) fn bind(&mut self, name: &'v str, binding: Binding) -> Result<(), Fault>
         requires few { length self.old.inputs.tensors + length self.old.bindings.items < 2 ^ 32 }
         ensures ok { OnOk result ((bounds : Bounds) (n : Named) → IsNamed self.old bounds n
@@ -120,8 +123,9 @@ impl<'v, 'a> NamedInputs<'v, 'a> {
     }
 }
 
-/// The tensors of members and their numbers. Values that stand behind the text are those of the
-/// first member, then of the second, and so on, until none are left.
+/// Reads the tensors of the members of `inputs` and numbers them. If values follow the text, the
+/// first member gets the first of them, the second the next, and so on; none may be left at the
+/// end.
 fn read_members<'v, 'a>(
     alloc: Global,
     members: &'v Map<String, Value>,
@@ -174,7 +178,7 @@ fn read_members<'v, 'a>(
     })
 }
 
-/// Gives a name its number, unless it has one.
+/// Gives a name this number, unless the name has one.
 fn put_first<'v>(
     numbers: &mut BTreeMap<&'v str, u32>,
     name: &'v str,

@@ -1,4 +1,5 @@
-//! The tree of an expression, read on one walk.
+//! Reads the tree of an expression on one walk. The order of the checks decides which fault comes
+//! first; it is the order of `specs/Node`.
 
 ghost use Rattle.std.specs.Prelude.{◌≡◌, ◌+◌, ◌-◌, ◌<◌, ◌≤◌, ◌++◌, ◌∷◌, ℕ, List, [], length, map, IsTrue, Ok};
 ghost use Rattle.std.specs.Prelude.{Result, MatchResult, IfOk, OnOk, OnErr};
@@ -29,7 +30,7 @@ use serde_json::Value;
 use std::alloc::Global;
 use tensor_ops::{Bounds, Dims, Expr};
 
-/// An expression that was read, its result dims, and the number of nodes of the text up to its end.
+/// An expression that was read, its result dims, and how many nodes the text has up to its end.
 #[derive(Drop)]
 pub(crate) struct Subtree {
     pub(crate) expr: Expr,
@@ -37,9 +38,10 @@ pub(crate) struct Subtree {
     pub(crate) end: u64,
 }
 
-/// The expression of a tree that has `before` nodes of the text before it. A node is looked at
-/// before its operands, these from the left and each wholly, and then come its arguments and its
-/// own checks. The way to a fault is made only where there is one, from its end up.
+/// Reads a tree that has `before` nodes of the text before it. The checks of a node are, in this
+/// order: the number of nodes, the operation, the number of elements, each operand from the left
+/// with all its checks, the arguments, and the dims. On a fault, `way` gets the indices of the
+/// elements on the way to it, the innermost first.
 pub(crate) fn read_node(
     alloc: Global,
     version: Version,
@@ -95,8 +97,8 @@ pub(crate) fn read_node(
     }
 }
 
-/// What was found at this index among the elements of a node: the way to its fault has that step
-/// before those that it has.
+/// Passes on what was read from the element at `position` of a node. On a fault, `way` gets
+/// `position`.
 pub(crate) fn behind(
     position: u8,
     found: Result<Subtree, Fault>,
@@ -120,7 +122,8 @@ pub(crate) fn behind(
     }
 }
 
-/// The input of a name, which is a node up to this end.
+/// Returns the input or binding that a name stands for. `end` is the number of nodes up to and
+/// including the name.
 fn read_name(named: &NamedInputs<'_, '_>, name: &str, end: u64) -> Result<Subtree, Fault>
     requires { (bounds : Bounds) × (n : Named) × IsNamed named.now bounds n }
     ensures tree { (bounds : Bounds) (n : Named) → IsNamed named.now bounds n
@@ -137,7 +140,8 @@ fn read_name(named: &NamedInputs<'_, '_>, name: &str, end: u64) -> Result<Subtre
     })
 }
 
-/// The operation that the first of a node's elements names.
+/// Returns the operation that the first element of a node names. On a fault, `way` gets the index
+/// 0.
 fn operation_of(version: Version, head: &Value, way: &mut Indices) -> Result<Operation, Fault>
     requires { way.old.items ≡ [] }
     ensures operation { IsReadAt operation_under
@@ -154,7 +158,7 @@ fn operation_of(version: Version, head: &Value, way: &mut Indices) -> Result<Ope
     Err(Fault::UnknownOp)
 }
 
-/// The operation on an operand that was read, where its arguments and its checks have no fault.
+/// Builds an operation on one operand, whose arguments are `arguments`, and checks its dims.
 fn read_unary(
     alloc: Global,
     bounds: Bounds,
@@ -180,7 +184,7 @@ fn read_unary(
     checked(bounds, expr, &[operand.dims], operand.end)
 }
 
-/// The operation on two operands that were read, where its arguments and its checks have no fault.
+/// Builds an operation on two operands, whose arguments are `arguments`, and checks its dims.
 fn read_binary(
     alloc: Global,
     bounds: Bounds,
@@ -209,7 +213,7 @@ fn read_binary(
     checked(bounds, expr, &[left.dims, right.dims], right.end)
 }
 
-/// The choice between two operands by a third, where its checks have no fault.
+/// Builds the choice between `left` and `right` by `choice`, and checks its dims.
 fn read_ternary(
     alloc: Global,
     bounds: Bounds,
@@ -238,7 +242,7 @@ fn read_ternary(
     )
 }
 
-/// An operand in memory of its own.
+/// Allocates a box for an operand.
 fn boxed(alloc: Global, expr: Expr) -> Result<Box<Expr>, Fault>
     ensures { MatchResult result (λ b. b.value ≡ expr) (λ fault. fault ≡ Fault.NoMemory) }
 {
@@ -248,7 +252,8 @@ fn boxed(alloc: Global, expr: Expr) -> Result<Box<Expr>, Fault>
     }
 }
 
-/// An operation on operands of these dims, which ends there, where its own checks have no fault.
+/// Checks the dims of an operation whose operands have the dims `operands`, and returns it with its
+/// result dims. `end` is the number of nodes up to its end.
 fn checked(bounds: Bounds, expr: Expr, operands: &[Dims], end: u64) -> Result<Subtree, Fault>
     requires bounds { IsPossible bounds }
     requires some { 0 < length operands.now }

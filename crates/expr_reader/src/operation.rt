@@ -1,10 +1,12 @@
-//! The operations of the text.
+//! The operations of requests, without their operands and arguments. A new one needs a name in
+//! `version.rt`, an arm in `arguments.rt`, its forms in `specs/private/Version`, and a row of
+//! `specs/Table`.
 
 ghost use Rattle.std.specs.Prelude.{◌≡◌, length};
 
 use tensor_ops::{BinaryScalar, LineOperation, Reducer, UnaryScalar};
 
-/// An operation on one operand, without its arguments.
+/// An operation on one operand.
 #[derive(Clone, Copy, Debug, Eq, PartialEq)]
 pub(crate) enum Unary {
     Each(UnaryScalar),
@@ -21,7 +23,7 @@ pub(crate) enum Unary {
     Along(LineOperation),
 }
 
-/// An operation on two operands, without its arguments.
+/// An operation on two operands.
 #[derive(Clone, Copy, Debug, Eq, PartialEq)]
 pub(crate) enum Binary {
     Pairwise(BinaryScalar),
@@ -31,7 +33,7 @@ pub(crate) enum Binary {
     Take,
 }
 
-/// An operation by the number of its operands.
+/// An operation with one, two or three operands.
 #[derive(Clone, Copy, Debug, Eq, PartialEq)]
 pub(crate) enum Operation {
     One(Unary),
@@ -42,7 +44,7 @@ pub(crate) enum Operation {
 impl Unary {
     ghost use Rattle.expr_reader.specs.private.Version.{forms_of};
 
-    /// How many arguments stand behind its operand.
+    /// Returns how many arguments follow the operand.
     pub(crate) fn arguments(self) -> usize
         ensures { result ≡ length (forms_of self) }
     {
@@ -65,7 +67,7 @@ impl Unary {
 impl Binary {
     ghost use Rattle.expr_reader.specs.private.Version.{forms_of_two};
 
-    /// How many arguments stand behind its operands.
+    /// Returns how many arguments follow the two operands.
     pub(crate) fn arguments(self) -> usize
         ensures { result ≡ length (forms_of_two self) }
     {
@@ -80,7 +82,8 @@ impl Operation {
     ghost use Rattle.expr_reader.specs.Table.{arity_of};
     ghost use Rattle.expr_reader.specs.private.Version.{operation_under};
 
-    /// How many elements stand behind its name: operands, and then arguments.
+    /// Returns how many elements follow the operation's name in a node: operands, and then
+    /// arguments.
     pub(crate) fn arity(self) -> usize
         ensures { result ≡ arity_of (operation_under self) }
     {

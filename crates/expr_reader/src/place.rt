@@ -1,32 +1,34 @@
-//! Where something stands in the value of a request text.
+//! The place of a fault in the JSON value of a request. `fault_reasons` prints it as a JSON
+//! pointer; `specs/Located` says which steps it stands for.
 
 use crate::fault::Fault;
 use arrayvec::ArrayVec;
 
-/// The most arrays of an expression that lie in one another.
+/// The capacity of [`Indices`]. An expression has at most this number of nodes, so no place in it
+/// is deeper.
 pub const MAX_DEPTH: usize = 10_000;
 
-/// The index of an element in each array on the way to it, the innermost first.
+/// The index of an element in each array on the way down to it, the innermost array first.
 pub type Indices = ArrayVec<u8, MAX_DEPTH>;
 
-/// A place in the value of a request text.
+/// A place in the JSON value of a request.
 #[derive(Drop)]
 pub enum Place<'v> {
-    /// The whole of it.
+    /// The whole value.
     Whole,
-    /// A field of the request.
+    /// The field of the request with this name.
     Field(&'v str),
-    /// An input.
+    /// The input with this name.
     Input(&'v str),
-    /// The expression, or what lies in it: a node, or an element of one.
+    /// The expression, or a node or an element of a node in it, by the indices on the way down.
     Node(Indices),
 }
 
-/// A fault, and where it is.
+/// A fault and its place.
 #[derive(Drop)]
 pub struct Located<'v> {
-    /// The fault.
+    /// The fault that was found.
     pub fault: Fault,
-    /// Its place; of no meaning where there is no memory.
+    /// The place of the fault. It has no meaning if the fault is [`Fault::NoMemory`].
     pub place: Place<'v>,
 }

@@ -1,4 +1,5 @@
-//! The value of a text, and the request that it names.
+//! The JSON value of a text, and the request that it names. The ghost fields of `Request` are what
+//! evaluation relies on: inputs for all names, dims within bounds, and few enough nodes.
 
 ghost use Rattle.std.specs.Prelude.{◌≡◌, ◌+◌, ◌^◌, ◌<◌, ◌≤◌, IsTrue, Ok, length};
 ghost use Rattle.serde_json.specs.View.{view};
@@ -17,26 +18,27 @@ use tensor_ops::{Dims, Expr, Inputs};
 /// The JSON value of a text that is not too long.
 #[derive(Drop)]
 pub struct Parsed {
-    /// The value.
+    /// The JSON value of the text.
     pub value: Value,
     pub ghost few: { member_count (view value) ≤ most_bytes + 1 },
 }
 
-/// What a text asks for: an expression over inputs and the tensors of bindings, and how to spread its
-/// work. The workers and the block change nothing in the answer.
+/// What a text or a frame asks for: an expression over inputs and the tensors of bindings, and how
+/// to spread the work. Neither `workers` nor `block` changes the answer.
 #[derive(Drop)]
 pub struct Request<'a> {
-    /// How many workers take part, from 1 to 256.
+    /// How many workers take part at most: 1 to 256.
     pub workers: u32,
-    /// How many places are worked on at a time, from 1 to the greatest block of its version.
+    /// How many places a worker takes at a time: from 1 to the largest block of the request's
+    /// version.
     pub block: u64,
-    /// The tensors, in the order of their names.
+    /// The input tensors, in the order of their names.
     pub inputs: Inputs<'a>,
-    /// The expressions whose tensors are given names, in order. A text has none.
+    /// The bindings, in order. The request of a text has none.
     pub bindings: Vec<Binding>,
-    /// The expression.
+    /// The expression whose tensor is the answer.
     pub expr: Expr,
-    /// The dims of its tensor.
+    /// The dims of the answer.
     pub dims: Dims,
     pub ghost have_inputs: { IsTrue (have_inputs (terms_under bindings.items)
         (length inputs.tensors)) },

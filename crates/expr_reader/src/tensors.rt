@@ -1,4 +1,5 @@
-//! The inputs of a request: their names, and their tensors.
+//! Reads the tensors of a request, in the three forms that they have in a text, in a frame, and
+//! beside arrays. They are defined in `specs/Tensors`, `Frame` and `Arrays`.
 
 ghost use Rattle.std.specs.Prelude.{◌≡◌, ◌≤◌, length, IfOk, IfSome};
 ghost use Rattle.serde_json.specs.View.{view};
@@ -16,7 +17,7 @@ use serde_json::Value;
 use std::alloc::Global;
 use tensor_ops::{Bounds, Dims, MAX_RANK, Tensor};
 
-/// A tensor: an object of exactly `dims` and `data`.
+/// Reads a tensor of a text: an object of exactly `dims` and `data`. Its values are copied.
 pub(crate) fn read_tensor(
     alloc: Global,
     value: &Value,
@@ -36,7 +37,8 @@ pub(crate) fn read_tensor(
     Ok(Tensor::new(dims, values))
 }
 
-/// A tensor of a frame: an object of exactly `dims`, to which the first of these values are lent.
+/// Reads a tensor of a frame: an object of exactly `dims`. It borrows the first of `values`, one
+/// for each place.
 pub(crate) fn read_framed_tensor<'a>(
     value: &Value,
     bounds: Bounds,
@@ -60,8 +62,8 @@ pub(crate) fn read_framed_tensor<'a>(
     Ok(Tensor::lent(dims, &values[..size]))
 }
 
-/// A tensor whose values are an array of their own: an object of exactly `dims`, to which all of
-/// them are lent.
+/// Reads a tensor with an array of its own: an object of exactly `dims`. It borrows all of
+/// `values`, one for each place.
 pub(crate) fn read_array_tensor<'a>(
     value: &Value,
     bounds: Bounds,
@@ -80,7 +82,7 @@ pub(crate) fn read_array_tensor<'a>(
     }
 }
 
-/// Dims within these bounds. Takes no memory, however long the list is.
+/// Reads dims within these bounds. It allocates nothing, however long the list is.
 fn read_dims(value: &Value, bounds: Bounds) -> Option<Dims>
     requires { IsPossible bounds }
     ensures dims { result ≡ dims_in bounds (view value.now) }
@@ -97,7 +99,7 @@ fn read_dims(value: &Value, bounds: Bounds) -> Option<Dims>
     Dims::within(bounds, sizes.as_slice()).ok()
 }
 
-/// A list of this many whole numbers of the `i64` range.
+/// Reads an array of `size` whole numbers of the `i64` range.
 fn read_values(alloc: Global, value: &Value, size: u64) -> Result<Vec<i64>, Fault>
     ensures { IsReadOr Fault.BadTensor (λ values. values.items)
         (values_in size (view value.now)) result }

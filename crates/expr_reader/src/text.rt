@@ -1,5 +1,5 @@
-//! From the bytes of a text to its request, or to its fault and where that is; and from those of a
-//! header and its values.
+//! The entry points of the crate: from the bytes of a text, or of a header and the values after
+//! it, to the request or its first fault. The order of the checks is the order of `specs/Request`.
 
 ghost use Rattle.std.specs.Prelude.{◌≡◌, ◌+◌, ◌<◌, ◌≤◌, ◌⊎◌, [], Ok, Err, IsOk, MatchResult};
 ghost use Rattle.std.specs.Prelude.{MatchOption, length, IsErrOf, IfOk, option_map, codes, min};
@@ -38,9 +38,8 @@ use crate::{MAX_TEXT, MAX_VALUES, WIDEST_VALUES};
 use serde_json::Value;
 use std::alloc::Global;
 
-/// Reads a request text, in one pass over its JSON value (RFC 8259). Want of memory is answered
-/// wherever a growth is refused, before any later fault is looked for; a text that is too long
-/// takes none.
+/// Reads a request text, in one pass over its JSON value (RFC 8259). A failed allocation ends the
+/// reading at once; no later fault is looked for. A text that is too long allocates nothing.
 ///
 /// # Errors
 ///
@@ -58,15 +57,16 @@ pub fn read_request(alloc: Global, text: &[u8]) -> Result<Request<'static>, Faul
     read_value(alloc, &parsed.value, Values::InText, &mut place)
 }
 
-/// Reads a frame: a header, which is a request text in which each tensor is an object of `dims`
-/// alone, and the tensors' values behind it, those of one tensor after those of another, in the
-/// order of their names. It asks for what the text does that has each tensor's values in its
-/// `data`.
+/// Reads a frame: a header and the values after it. The header is a request text in which each
+/// tensor is an object of `dims` alone. The values of the tensors follow one another in the order
+/// of the tensors' names. The frame asks for the same as the text that has these values in the
+/// `data` of its tensors.
 ///
 /// # Errors
 ///
-/// As of a text; [`Fault::TooLong`] also where there are more values than [`values_limit`] says, and
-/// [`Fault::BadTensor`] also where there are more or fewer than the tensors have places.
+/// The faults of a text. [`Fault::TooLong`] is also returned if there are more values than
+/// [`values_limit`], and [`Fault::BadTensor`] if there are more or fewer than the tensors have
+/// places.
 pub fn read_frame<'a>(alloc: Global, header: &[u8], values: &'a [i64]) -> Result<Request<'a>, Fault>
     ensures request { MatchResult result
         (λ request. request_of_frame header.now values.now ≡ Ok (asked_under request))
@@ -79,14 +79,14 @@ pub fn read_frame<'a>(alloc: Global, header: &[u8], values: &'a [i64]) -> Result
     read_value(alloc, &parsed.value, Values::Behind(values), &mut place)
 }
 
-/// Reads a header as [`read_frame`] does, whose tensors' values lie apart: an array a tensor, in
-/// the order of their names. Where each has as many values as its tensor has places, it is the
-/// frame of the arrays one behind the other.
+/// Reads a header with an array of values for each tensor, in the order of the tensors' names. If
+/// each array has as many values as its tensor has places, the result is what [`read_frame`]
+/// returns for this header and all arrays joined.
 ///
 /// # Errors
 ///
-/// As of that frame; [`Fault::BadTensor`] also where an array has more or fewer values than its
-/// tensor has places, and where there are more or fewer arrays than tensors.
+/// The faults of that frame. [`Fault::BadTensor`] is also returned if an array has more or fewer
+/// values than its tensor has places, or if there are more or fewer arrays than tensors.
 pub fn read_arrays<'a>(
     alloc: Global,
     header: &[u8],
@@ -107,7 +107,8 @@ pub fn read_arrays<'a>(
     read_value(alloc, &parsed.value, Values::Apart(arrays), &mut place)
 }
 
-/// How many values arrays have together, or one more than there may be behind any header.
+/// Returns how many values arrays have together, or [`WIDEST_VALUES`] + 1 if there are more than
+/// [`WIDEST_VALUES`].
 fn count_of(arrays: &[Array<'_>]) -> usize
     ensures { result ≡ min (length (joined (arrays_under arrays.now))) (widest_values + 1) }
 {
@@ -121,8 +122,8 @@ fn count_of(arrays: &[Array<'_>]) -> usize
     count
 }
 
-/// How many values may stand behind a header: as many as its version says, or as the first says where
-/// it has none. So who reads a stream knows whether to keep them.
+/// Returns how many values may follow a header: the limit of its version, or of version 1 if it has
+/// no known version. A reader of a stream uses it to decide whether to keep the values.
 ///
 /// # Errors
 ///
@@ -138,7 +139,7 @@ pub fn values_limit(alloc: Global, header: &[u8]) -> Result<u64, Fault>
     }
 }
 
-/// How many values may stand behind a header that is this value.
+/// Returns how many values may follow a header with this JSON value.
 fn values_of(header: &Value) -> usize
     ensures value { result ≡ option_map_or (λ p. p.values)
         (option_and_then frame_profile_of (version_in (view header.now))) most_values }
@@ -153,7 +154,7 @@ fn values_of(header: &Value) -> usize
     }
 }
 
-/// The JSON value of a header with so many values behind it.
+/// Parses a header that has `count` values after it.
 fn parse_header(alloc: Global, header: &[u8], count: usize) -> Result<Parsed, Fault>
     ensures value { MatchResult result
         (λ parsed. (data_of header.now ≡ Ok (view parsed.value)) × (count ≤ values_limit header.now))
@@ -173,7 +174,11 @@ fn parse_header(alloc: Global, header: &[u8], count: usize) -> Result<Parsed, Fa
     }
 }
 
-/// The JSON value of a text. A fault of it is one of the whole text.
+/// Parses the JSON value of a text. A fault found here is a fault of the whole text.
+///
+/// # Errors
+///
+/// [`Fault::TooLong`], [`Fault::NotJson`] or [`Fault::NoMemory`].
 pub fn parse_request(alloc: Global, text: &[u8]) -> Result<Parsed, Fault>
     ensures value { MatchResult result
         (λ parsed. data_of text.now ≡ Ok (view parsed.value))
@@ -187,8 +192,8 @@ pub fn parse_request(alloc: Global, text: &[u8]) -> Result<Parsed, Fault>
     Ok(Parsed { value })
 }
 
-/// The fault of a request, and where it is. A text's is that which [`read_request`] answers: the
-/// walk is the same.
+/// Returns the first fault of a request text and its place, or `None` if it has none. It reads the
+/// value as [`read_request`] does, so the fault is the one that [`read_request`] returns.
 pub fn locate(alloc: Global, parsed: &Parsed) -> Option<Located<'_>>
     ensures { MatchOption result (IsOk (data_asked profile_of inputs_in (view parsed.now.value)))
         (λ found. (found.fault ≡ Fault.NoMemory)
@@ -201,7 +206,12 @@ pub fn locate(alloc: Global, parsed: &Parsed) -> Option<Located<'_>>
     }
 }
 
-/// What a request asks for with another expression in the place of its own.
+/// Reads the request of a parsed text, with `expr` in place of its own expression. `fault_reasons`
+/// uses it to find the dims of an operand.
+///
+/// # Errors
+///
+/// The first fault of that request, or [`Fault::NoMemory`].
 pub fn read_part(alloc: Global, parsed: &Parsed, expr: &Value) -> Result<Request<'static>, Fault>
     ensures request { MatchResult result
         (λ request. part_asked (view parsed.now.value) (view expr.now) ≡ Ok (asked_under request))
@@ -217,7 +227,8 @@ pub fn read_part(alloc: Global, parsed: &Parsed, expr: &Value) -> Result<Request
     read_fields(alloc, &fields, Values::InText, &mut place)
 }
 
-/// The request of a value.
+/// Reads the request of a JSON value. `place` is the whole value before the call; on a fault, it is
+/// the fault's place.
 fn read_value<'v, 'a>(
     alloc: Global,
     value: &'v Value,
@@ -237,7 +248,8 @@ fn read_value<'v, 'a>(
     read_fields(alloc, &fields, values, place)
 }
 
-/// The request of fields.
+/// Reads the request of the five fields, in the order of the faults. On a fault, `place` is set to
+/// the fault's place.
 fn read_fields<'v, 'a>(
     alloc: Global,
     fields: &Fields<'v>,
@@ -263,7 +275,7 @@ fn read_fields<'v, 'a>(
         *place = Place::Field("block");
         return Err(Fault::BadBlock);
     };
-    // Called for its clause: a version allows no more nodes than any.
+    // Called for its clause: no version allows more than `widest_nodes` nodes.
     let _nodes = version.nodes();
     let mut named = NamedInputs::read(alloc, fields.inputs, version.bounds(), values, place)?;
     let tree = read_tree(version, &mut named, fields.expr, place)?;
@@ -277,7 +289,7 @@ fn read_fields<'v, 'a>(
     })
 }
 
-/// The expression of a request.
+/// Reads the field `expr`. On a fault, `place` is set to the node that has it.
 fn read_tree<'v>(
     version: Version,
     named: &mut NamedInputs<'v, '_>,
@@ -306,7 +318,7 @@ fn read_tree<'v>(
     }
 }
 
-/// The version that the fields name, among those that there are.
+/// Returns the version that the field `version` names, if it is one of `versions`.
 fn version_of(fields: &Fields<'_>, versions: Versions) -> Option<Version>
     ensures { option_map profile_under result
         ≡ profile_in (versions_under versions) (fields_under fields.now) }

@@ -1,4 +1,5 @@
-//! Where the values of the tensors of a text stand.
+//! Where the values of a request's tensors are: in the text, after it, or in arrays.
+//! `specs/private/Behind` has this as `Source`; another place for values is a variant of both.
 
 ghost use Rattle.std.specs.Prelude.{◌≡◌, ◌≤◌, length, IfOk};
 ghost use Rattle.serde_json.specs.View.{view};
@@ -14,8 +15,7 @@ use serde_json::Value;
 use std::alloc::Global;
 use tensor_ops::{Bounds, Tensor};
 
-/// The values of each tensor stand in its `data`, or those of all of them behind the text, or each
-/// tensor's in an array of its own.
+/// Where the values are that still belong to no tensor.
 #[derive(Clone, Copy)]
 pub(crate) enum Values<'a> {
     InText,
@@ -27,7 +27,7 @@ impl<'a> Values<'a> {
     ghost use Rattle.expr_reader.specs.private.Behind.{source_of, versions_by, tensor_by, left_by, is_end};
     ghost use Rattle.expr_reader.specs.private.Behind.{HasFirst};
 
-    /// Which versions there are.
+    /// Returns which versions a request with such values may have.
     pub(crate) fn versions(self) -> Versions
         ensures { versions_under result ≡ versions_by (source_of self.entry) }
     {
@@ -37,7 +37,8 @@ impl<'a> Values<'a> {
         }
     }
 
-    /// The tensor that a member is, with the first of the values or arrays where there are any.
+    /// Reads the tensor of the next member. It takes the first of the values or arrays, if they are
+    /// not in the text.
     pub(crate) fn first_tensor(
         self,
         alloc: Global,
@@ -60,7 +61,7 @@ impl<'a> Values<'a> {
         }
     }
 
-    /// What is left behind the values of a tensor, which are the first.
+    /// Returns the values that are left after a tensor that took the first of them.
     pub(crate) fn without(self, tensor: &Tensor) -> Values<'a>
         requires { HasFirst (source_of self) tensor.now }
         ensures { source_of result ≡ left_by (source_of self.entry) tensor.now }
@@ -72,7 +73,7 @@ impl<'a> Values<'a> {
         }
     }
 
-    /// Whether no values are left.
+    /// Returns whether no values are left.
     pub(crate) fn is_end(self) -> bool
         ensures { result ≡ is_end (source_of self.entry) }
     {

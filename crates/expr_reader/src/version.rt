@@ -1,4 +1,6 @@
-//! The versions of texts and of frames, and what each allows.
+//! The versions of requests, and what each allows. `specs/Profile` has their limits and
+//! `specs/Table` their operations; both have to change with this file, and docs/REQUEST.md or
+//! FRAMES.md.
 
 ghost use Rattle.std.specs.Prelude.{◌≡◌, ◌≤◌, option_map};
 ghost use Rattle.serde_json.specs.View.{view};
@@ -17,7 +19,7 @@ use crate::{MAX_BLOCK, MAX_NODES, MAX_VALUES, WIDEST_BLOCK, WIDEST_NODES, WIDEST
 use serde_json::Value;
 use tensor_ops::{BinaryScalar, Bounds, LineOperation, Reducer, UnaryScalar, WIDEST};
 
-/// A version of a text or a frame.
+/// A version of a request.
 #[derive(Clone, Copy, Debug, Eq, PartialEq)]
 pub(crate) enum Version {
     One,
@@ -25,7 +27,7 @@ pub(crate) enum Version {
     Three,
 }
 
-/// Which versions there are: a frame has the third beside those of a text.
+/// Which versions there are: 1 and 2 for a text, 1 to 3 for a frame.
 #[derive(Clone, Copy, Debug, Eq, PartialEq)]
 pub(crate) enum Versions {
     OfTexts,
@@ -36,7 +38,7 @@ impl Version {
     ghost use Rattle.expr_reader.specs.Profile.{operation_named};
     ghost use Rattle.expr_reader.specs.private.Version.{profile_under, versions_under, operation_under};
 
-    /// The version of a number, among those that there are.
+    /// Returns the version with this number, if it is one of `versions`.
     pub(crate) fn of(number: u64, versions: Versions) -> Option<Version>
         ensures { option_map profile_under result ≡ versions_under versions number }
     {
@@ -48,7 +50,7 @@ impl Version {
         }
     }
 
-    /// The greatest number of workers.
+    /// Returns the largest number of workers.
     pub(crate) fn workers(self) -> u64
         ensures { result ≡ (profile_under self).workers }
     {
@@ -58,7 +60,7 @@ impl Version {
         }
     }
 
-    /// The most nodes of an expression.
+    /// Returns the largest number of nodes of an expression.
     pub(crate) fn nodes(self) -> u64
         ensures value { result ≡ (profile_under self).nodes }
         ensures limit { (profile_under self).nodes ≤ widest_nodes }
@@ -69,7 +71,7 @@ impl Version {
         }
     }
 
-    /// The most values behind a header.
+    /// Returns the largest number of values after a header.
     pub(crate) fn values(self) -> usize
         ensures { result ≡ (profile_under self).values }
     {
@@ -79,7 +81,7 @@ impl Version {
         }
     }
 
-    /// Whether the first of a node's elements says that it gives a tensor a name.
+    /// Returns whether the first element of a node makes it a `let`.
     pub(crate) fn is_let(self, head: &Value) -> bool
         ensures { result ≡ is_let (profile_under self) (view head.now) }
     {
@@ -89,7 +91,7 @@ impl Version {
         }
     }
 
-    /// The greatest block.
+    /// Returns the largest block.
     pub(crate) fn block(self) -> u64
         ensures { result ≡ (profile_under self).block }
     {
@@ -99,7 +101,7 @@ impl Version {
         }
     }
 
-    /// How large an input may get, and a result.
+    /// Returns the bounds on the dims of inputs and results.
     pub(crate) fn bounds(self) -> Bounds
         ensures value { result ≡ (profile_under self).bounds }
         ensures limit { IsPossible result }
@@ -111,7 +113,7 @@ impl Version {
         }
     }
 
-    /// The operation of a name.
+    /// Returns the operation with this name.
     pub(crate) fn operation(self, name: &str) -> Option<Operation>
         ensures { option_map operation_under result
             ≡ operation_named name.now (profile_under self).operations }
@@ -124,8 +126,8 @@ impl Version {
     }
 }
 
-/// The operation of a name in every version. It is looked for in three tables, since each arm of a
-/// table is proved not to be one of those above it.
+/// Returns the operation with this name in version 1. Three tables are searched, since the prover
+/// has to see for each arm of a table that its name differs from all names before it.
 fn first_operation(name: &str) -> Option<Operation>
     ensures { option_map operation_under result ≡ operation_named name.now operations_1 }
 {
@@ -134,14 +136,14 @@ fn first_operation(name: &str) -> Option<Operation>
         .or(operation_along_axes(name))
 }
 
-/// The operation of a name in the second version.
+/// Returns the operation with this name in version 2.
 fn second_operation(name: &str) -> Option<Operation>
     ensures { option_map operation_under result ≡ operation_named name.now operations_2 }
 {
     first_operation(name).or(added_operation(name))
 }
 
-/// The operation of a name in the third version.
+/// Returns the operation with this name in version 3.
 fn third_operation(name: &str) -> Option<Operation>
     ensures { option_map operation_under result ≡ operation_named name.now operations_3 }
 {
@@ -150,7 +152,8 @@ fn third_operation(name: &str) -> Option<Operation>
         .or(operation_along_one_axis(name))
 }
 
-/// An operation that works each value out from those at its own place.
+/// Returns the operation with this name that computes each value from the operands' values at its
+/// own place.
 fn operation_on_values(name: &str) -> Option<Operation>
     ensures { option_map operation_under result ≡ operation_named name.now operations_on_values }
 {
@@ -178,7 +181,7 @@ fn operation_on_values(name: &str) -> Option<Operation>
     }
 }
 
-/// A movement.
+/// Returns the movement with this name.
 fn movement(name: &str) -> Option<Operation>
     ensures { option_map operation_under result ≡ operation_named name.now movements }
 {
@@ -193,7 +196,7 @@ fn movement(name: &str) -> Option<Operation>
     }
 }
 
-/// A reduction, or the contraction.
+/// Returns the reduction with this name, or the contraction.
 fn operation_along_axes(name: &str) -> Option<Operation>
     ensures { option_map operation_under result ≡ operation_named name.now operations_along_axes }
 {
@@ -209,7 +212,7 @@ fn operation_along_axes(name: &str) -> Option<Operation>
     }
 }
 
-/// The operation of a name that the second version adds.
+/// Returns the operation with this name that version 2 adds.
 fn added_operation(name: &str) -> Option<Operation>
     ensures { option_map operation_under result ≡ operation_named name.now operations_added }
 {
@@ -222,7 +225,7 @@ fn added_operation(name: &str) -> Option<Operation>
     }
 }
 
-/// An operation on whole numbers, which the third version adds.
+/// Returns the operation on integers with this name, which version 3 adds.
 fn operation_on_integers(name: &str) -> Option<Operation>
     ensures { option_map operation_under result ≡ operation_named name.now operations_on_integers }
 {
@@ -239,7 +242,7 @@ fn operation_on_integers(name: &str) -> Option<Operation>
     }
 }
 
-/// An operation along one axis, which the third version adds.
+/// Returns the operation along one axis with this name, which version 3 adds.
 fn operation_along_one_axis(name: &str) -> Option<Operation>
     ensures { option_map operation_under result
         ≡ operation_named name.now operations_along_one_axis }

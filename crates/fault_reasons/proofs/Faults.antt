@@ -1,4 +1,4 @@
--- What is told of a text that can't be read.
+-- What is printed about a text that can't be read.
 use Rattle.std.proofs.Common.{◌≡◌, ℕ, List, Some, Err, codes, refl}
 use Rattle.expr_reader.specs.Place.{here}
 use Rattle.expr_reader.specs.Request.{data_of, request_at}

@@ -1,4 +1,5 @@
-//! What is said of a request text: its fault, where it is and why, or its plan.
+//! The entry point of the crate: explains a request text by its fault, the place of the fault and a
+//! reason, or by its plan. `specs/Explained` says what the lines are; `tensor_explain` prints them.
 
 ghost use Rattle.std.specs.Prelude.{◌≡◌, ◌⊎◌, ◌++◌, None, Some, IfOk, MatchOption};
 ghost use Rattle.std.specs.Cow.{cow_slice_items};
@@ -17,28 +18,29 @@ use expr_reader::{Fault, Parsed, locate, parse_request};
 use std::alloc::{AllocError, Global};
 use std::borrow::CowSlice;
 
-/// The line where there is no memory, which takes none.
+/// The line for an allocation that failed. It is constant, so nothing is allocated for it.
 const NO_MEMORY: &[u8] = b"error 15 NoMemory\n";
 
-/// What is said of a text, and its fault where it has one.
+/// What is printed about a text, and the text's fault if it has one.
 #[derive(Drop)]
 pub struct Explanation {
-    /// The fault that is answered.
+    /// The first fault of the text, or [`Fault::NoMemory`] if the explanation itself ran out of
+    /// memory.
     pub fault: Option<Fault>,
-    /// Lines, each with its line feed.
+    /// The lines to print, each with its line feed.
     pub lines: CowSlice<'static, u8, Global>,
 }
 
-/// Lines that were made, and the fault that they tell.
+/// An explanation whose lines were allocated.
 #[derive(Drop)]
 struct Told {
     fault: Option<Fault>,
     lines: Vec<u8>,
 }
 
-/// Explains a text: `error NUMBER NAME` and `at PLACE: REASON` where it has a fault, and else
-/// `no fault`, the dims of its result, and the steps that it is worked out in. Where a growth of
-/// memory is refused the line of that is all.
+/// Explains a request text. If it has a fault, the lines are `error NUMBER NAME` and `at PLACE:
+/// REASON`. Otherwise they are `no fault`, the dims of the result, and the steps of the plan. If an
+/// allocation fails, the only line is `error 15 NoMemory`.
 pub fn explain(alloc: Global, text: &[u8]) -> Explanation
     ensures { IsExplained (request_at text.now) result }
 {
@@ -51,7 +53,7 @@ pub fn explain(alloc: Global, text: &[u8]) -> Explanation
     }
 }
 
-/// What is said where there is no memory. It takes none.
+/// Returns the explanation of an allocation that failed. It allocates nothing.
 pub fn no_memory() -> Explanation
     ensures fault { result.fault ≡ Some Fault.NoMemory }
     ensures lines { cow_slice_items result.lines ≡ fault_line Fault.NoMemory }
@@ -62,7 +64,7 @@ pub fn no_memory() -> Explanation
     }
 }
 
-/// Explains a text, where there is memory.
+/// Explains a text; fails if an allocation fails.
 fn explain_text(alloc: Global, text: &[u8]) -> Result<Told, AllocError>
     ensures { IfOk result (λ told. Tells (request_at text.now) told.fault told.lines.items) }
 {
@@ -82,7 +84,7 @@ fn explain_text(alloc: Global, text: &[u8]) -> Result<Told, AllocError>
     }
 }
 
-/// Explains a text that was parsed.
+/// Explains the JSON value of a text; fails if an allocation fails.
 fn explain_parsed(alloc: Global, parsed: &Parsed) -> Result<Told, AllocError>
     ensures { IfOk result (λ told.
         Tells (data_asked profile_of inputs_in (view parsed.now.value)) told.fault told.lines.items) }

@@ -1,15 +1,16 @@
-//! Why the fields of a request aren't as they should be.
+//! Reasons for the faults BadField, BadVersion, BadWorkers and BadBlock. Their limits are the
+//! limits of texts, written here again: a new version or limit of `expr_reader` changes them too.
 
 use crate::found::{found, quoted};
 use serde_json::Value;
 use std::alloc::{AllocError, Global};
 
-/// Whether a request has a field of this name.
+/// Returns whether a request has a field with this name.
 fn is_field(name: &str) -> bool {
     matches!(name, "version" | "workers" | "block" | "inputs" | "expr")
 }
 
-/// Why a value hasn't exactly the fields of a request.
+/// Says why a value does not have exactly the fields of a request.
 pub(crate) fn why_fields(alloc: Global, value: &Value) -> Result<String, AllocError> {
     let Some(members) = value.as_object() else {
         let what = found(alloc, value)?;
@@ -29,13 +30,13 @@ pub(crate) fn why_fields(alloc: Global, value: &Value) -> Result<String, AllocEr
     format!(in alloc; "a request has five fields")
 }
 
-/// Why a value is no version.
+/// Says why a value is not a version of a text.
 pub(crate) fn why_version(alloc: Global, value: &Value) -> Result<String, AllocError> {
     let what = found(alloc, value)?;
     format!(in alloc; "the version is the whole number 1 or 2, and this is {what}")
 }
 
-/// Why a value is no number of workers of a version.
+/// Says why a value is not a number of workers in this version.
 pub(crate) fn why_workers(
     alloc: Global,
     version: u64,
@@ -48,7 +49,7 @@ pub(crate) fn why_workers(
     )
 }
 
-/// Why a value is no block.
+/// Says why a value is not a block.
 pub(crate) fn why_block(alloc: Global, value: &Value) -> Result<String, AllocError> {
     let what = found(alloc, value)?;
     format!(in alloc; "a block has a whole number from 1 to 1048576 of places, and this is {what}")

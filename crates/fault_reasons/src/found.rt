@@ -1,12 +1,13 @@
-//! What stands at a place, in a few words.
+//! Describes a JSON value in a few words. All reasons use it, so a change here changes most
+//! reasons.
 
 use serde_json::Value;
 use std::alloc::{AllocError, Global};
 
-/// The most bytes of a string that are repeated.
+/// The most bytes of a string that a reason repeats.
 const MOST_SHOWN: usize = 60;
 
-/// What a value is: itself as JSON where it is short, and else how long it is.
+/// Describes a value: as JSON if it is short, otherwise by its kind and its length.
 pub(crate) fn found(alloc: Global, value: &Value) -> Result<String, AllocError> {
     match value {
         Value::Array(list) if !list.is_empty() => { format!(in alloc; "a list of {}", list.len()) }
@@ -20,7 +21,7 @@ pub(crate) fn found(alloc: Global, value: &Value) -> Result<String, AllocError> 
     }
 }
 
-/// A name as JSON has it, or how long it is.
+/// Returns a name as a JSON string, or how long it is if it is long.
 pub(crate) fn quoted(alloc: Global, name: &str) -> Result<String, AllocError> {
     if name.len() > MOST_SHOWN {
         return format!(in alloc; "a name of {} bytes", name.len());

@@ -1,6 +1,6 @@
-//! Why a request text has the fault that it has, and where: a place as a JSON pointer, and a
-//! sentence on what stands there and what should. That the fault is the one that is answered is
-//! proved, and that the pointer is its place's; what the sentences say is not.
+//! Says why a request text has its fault, and where: the place as a JSON pointer, and a sentence
+//! that says what is there and what should be. It is proved that the fault and the place are
+//! what the definition of a request says. What the sentences say is only tested (`tests/test_explain.py`).
 #![tactic(auto)]
 
 mod explanation;

@@ -1,4 +1,5 @@
-//! The lines on a fault: its place and a reason, each in one line.
+//! The two lines about a fault. `specs/Explained` and `specs/Pointer` say byte by byte what they
+//! are, except the reason.
 
 ghost use Rattle.std.specs.Prelude.{◌≡◌, ◌<◌, ◌++◌, flat_map, IfOk, OnOk};
 ghost use Rattle.std.specs.Char.{digit_char};
@@ -11,10 +12,10 @@ use crate::pointers::pointer;
 use expr_reader::{Fault, Place};
 use std::alloc::{AllocError, Global};
 
-/// The place of a fault that is one of the whole text.
+/// The words for the place of a fault that the whole text has.
 pub(crate) const WHOLE: &[u8] = b"the whole text";
 
-/// A place, as the lines have it.
+/// Returns a place as it is printed: its pointer, with some bytes escaped, or [`WHOLE`].
 pub(crate) fn place_text(alloc: Global, place: &Place<'_>) -> Result<Vec<u8>, AllocError>
     ensures { IfOk result (λ place_bytes.
         place_bytes.items ≡ text.place_text (steps_under place.now)) }
@@ -28,7 +29,8 @@ pub(crate) fn place_text(alloc: Global, place: &Place<'_>) -> Result<Vec<u8>, Al
     }
 }
 
-/// A pointer as a line shows it.
+/// Returns a pointer as it is printed. Bytes that could be mistaken for the end of the place are
+/// escaped as in JSON.
 fn shown(alloc: Global, pointer: &[u8]) -> Result<Vec<u8>, AllocError>
     ensures { IfOk result (λ place. place.items ≡ flat_map shown pointer.now) }
 {
@@ -39,7 +41,7 @@ fn shown(alloc: Global, pointer: &[u8]) -> Result<Vec<u8>, AllocError>
     Ok(place)
 }
 
-/// Appends a byte of a pointer as a line shows it.
+/// Appends one byte of a pointer, escaped as `\u00` and two digits if it must be.
 fn push_shown(place: &mut Vec<u8>, byte: u8) -> Result<(), AllocError>
     ensures { OnOk result (place.new.items ≡ place.old.items ++ shown byte) }
 {
@@ -53,7 +55,7 @@ fn push_shown(place: &mut Vec<u8>, byte: u8) -> Result<(), AllocError>
     Ok(())
 }
 
-/// A digit of base 16.
+/// Returns the hexadecimal digit of a number below 16.
 fn digit(value: u8) -> u8
     requires { value < 16 }
     ensures { result ≡ digit_char value }
@@ -65,14 +67,15 @@ fn digit(value: u8) -> u8
     }
 }
 
-/// Whether a byte isn't shown as it is.
+/// Returns whether a byte of a pointer is escaped: a control byte, a quotation mark, a backslash or
+/// a colon.
 fn is_hidden(byte: u8) -> bool
     ensures { result ≡ is_hidden byte }
 {
     byte < 32 || byte == b'"' || byte == b'\\' || byte == b':'
 }
 
-/// That there is this fault, where and why.
+/// Returns the lines `error NUMBER NAME` and `at PLACE: REASON`.
 pub(crate) fn fault_lines(
     alloc: Global,
     fault: Fault,
@@ -90,7 +93,7 @@ pub(crate) fn fault_lines(
     Ok(lines)
 }
 
-/// A text with a space for each line feed.
+/// Returns the bytes of a text, with a space in place of each line feed.
 pub(crate) fn one_line(alloc: Global, text: &str) -> Result<Vec<u8>, AllocError>
     ensures { IfOk result (λ line. IsOneLine line.items) }
 {

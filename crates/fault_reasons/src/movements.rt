@@ -1,10 +1,11 @@
-//! Why a movement, a pad or a reshape of an operand fails.
+//! Reasons why a movement, a pad or a reshape does not fit its operand. The checks are made in the
+//! order of `tensor_terms`, so the reason is the one of the fault that was found.
 
 use crate::sizes::{no_axis, past_words, places, sizes_in, why_axes, why_illegal};
 use serde_json::Value;
 use std::alloc::{AllocError, Global};
 
-/// That an argument has not an item for each dimension, where that is so.
+/// Says that an argument has too few or too many items, if it has not one for each dimension.
 fn why_count(
     alloc: Global,
     name: &str,
@@ -21,7 +22,7 @@ fn why_count(
     Ok(Some(reason))
 }
 
-/// The same of an argument that is a list.
+/// Says that a list argument has too few or too many items, if it has not one for each dimension.
 pub(crate) fn why_lengths(
     alloc: Global,
     name: &str,
@@ -34,7 +35,7 @@ pub(crate) fn why_lengths(
     }
 }
 
-/// That an item of an argument is 0, where that is so.
+/// Says which item of an argument is 0, if there is one.
 fn why_zero(alloc: Global, name: &str, sizes: &[u64]) -> Result<Option<String>, AllocError> {
     match sizes.iter().position(|size| *size == 0) {
         Some(index) => {
@@ -47,7 +48,7 @@ fn why_zero(alloc: Global, name: &str, sizes: &[u64]) -> Result<Option<String>, 
     }
 }
 
-/// Why counts are none of these dims.
+/// Says why the counts of a broadcast do not fit these dims.
 pub(crate) fn why_broadcast(
     alloc: Global,
     version: u64,
@@ -70,7 +71,7 @@ pub(crate) fn why_broadcast(
     why_illegal(alloc, version, sizes.as_slice())
 }
 
-/// Why sizes are none that these dims can have.
+/// Says why a tensor with these dims can't be reshaped to these sizes.
 pub(crate) fn why_reshape(
     alloc: Global,
     version: u64,
@@ -88,7 +89,7 @@ pub(crate) fn why_reshape(
     Ok(Some(reason))
 }
 
-/// Why an order is none of the axes of these dims.
+/// Says why an order is not a permutation of the axes of these dims.
 pub(crate) fn why_order(
     alloc: Global,
     order: &[u64],
@@ -100,7 +101,7 @@ pub(crate) fn why_order(
     }
 }
 
-/// Why steps are none of these dims.
+/// Says why the steps of a stride do not fit these dims.
 pub(crate) fn why_steps(
     alloc: Global,
     steps: &[u64],
@@ -112,7 +113,7 @@ pub(crate) fn why_steps(
     }
 }
 
-/// Why an offset and an axis are none of these dims.
+/// Says why the offset and the axis of a chip do not fit these dims.
 pub(crate) fn why_chip(
     alloc: Global,
     arguments: &[Value],
@@ -133,7 +134,7 @@ pub(crate) fn why_chip(
     Ok(Some(reason))
 }
 
-/// Why offsets and extents are none of these dims.
+/// Says why the offsets and extents of a slice do not fit these dims.
 pub(crate) fn why_slice(
     alloc: Global,
     arguments: &[Value],
@@ -155,7 +156,7 @@ pub(crate) fn why_slice(
     why_outside(alloc, offsets.as_slice(), extents.as_slice(), dims)
 }
 
-/// The first axis along which an offset and an extent go past the dimension.
+/// Says along which axis an offset and an extent first go past the dimension, if they do.
 fn why_outside(
     alloc: Global,
     offsets: &[u64],
@@ -178,7 +179,7 @@ fn why_outside(
     Ok(None)
 }
 
-/// Why pairs are none of these dims.
+/// Says why the pairs of a pad do not fit these dims.
 pub(crate) fn why_pad(
     alloc: Global,
     version: u64,
@@ -204,7 +205,7 @@ pub(crate) fn why_pad(
     why_illegal(alloc, version, sizes.as_slice())
 }
 
-/// A size and more, where that is not past 64 bits.
+/// Adds numbers to a size. `None` if the sum does not fit in 64 bits.
 fn sum_of(size: u64, more: &[u64]) -> Option<u64> {
     let mut sum = size;
     for each in more {

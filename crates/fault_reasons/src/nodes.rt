@@ -1,14 +1,15 @@
-//! Why a node is no expression.
+//! Reasons for the faults UnknownInput, UnknownOp, BadArity and BadArgument. What an operation
+//! takes is in `operations.rt`.
 
 use crate::found::{found, quoted};
 use crate::operations::{Form, Operation, known_operation};
 use serde_json::Value;
 use std::alloc::{AllocError, Global};
 
-/// How many names are repeated at most.
+/// The most names of inputs that a reason lists.
 const MOST_NAMES: usize = 5;
 
-/// Why a name is no input's.
+/// Says that no input has this name, and which names there are.
 pub(crate) fn why_input(
     alloc: Global,
     inputs: Option<&Value>,
@@ -19,7 +20,7 @@ pub(crate) fn why_input(
     format!(in alloc; "no input is named {name}: {names}")
 }
 
-/// The names that inputs have, or the first ones.
+/// Lists the names of the inputs, or the first of them.
 fn names(alloc: Global, inputs: Option<&Value>) -> Result<String, AllocError> {
     let Some(members) = inputs.and_then(Value::as_object) else {
         return format!(in alloc; "there are none");
@@ -41,7 +42,7 @@ fn names(alloc: Global, inputs: Option<&Value>) -> Result<String, AllocError> {
     Ok(names)
 }
 
-/// Why the first element of a node is no operation of a version.
+/// Says why the first element of a node is not an operation of this version.
 pub(crate) fn why_operation(
     alloc: Global,
     version: u64,
@@ -73,7 +74,7 @@ pub(crate) fn why_operation(
     }
 }
 
-/// What somebody may mean who writes a name that is no operation's.
+/// Suggests an operation for a name that other libraries use.
 fn near(name: &str) -> Option<&'static str> {
     match name {
         "max" => Some("\"maximum\" is over axes, and \"cwise_max\" of two tensors"),
@@ -86,7 +87,7 @@ fn near(name: &str) -> Option<&'static str> {
     }
 }
 
-/// Why a value is no node.
+/// Says why a value is not a node.
 pub(crate) fn why_node(alloc: Global, value: &Value) -> Result<String, AllocError> {
     let what = found(alloc, value)?;
     if value.as_i64().is_some() {
@@ -99,7 +100,7 @@ pub(crate) fn why_node(alloc: Global, value: &Value) -> Result<String, AllocErro
     )
 }
 
-/// Why a node has too few or too many elements.
+/// Says how many elements a node should have after the name of its operation, and how many it has.
 pub(crate) fn why_arity(alloc: Global, value: &Value) -> Result<String, AllocError> {
     let Some((name, operation, count)) = node(value) else {
         return why_node(alloc, value);
@@ -113,14 +114,14 @@ pub(crate) fn why_arity(alloc: Global, value: &Value) -> Result<String, AllocErr
     format!(in alloc; "\"{name}\" takes {takes}, and {count} {elements} behind it")
 }
 
-/// The name of a node's operation, what it takes, and how many elements stand behind it.
+/// Returns the name of a node's operation, what it takes, and how many elements follow the name.
 fn node(value: &Value) -> Option<(&str, Operation, usize)> {
     let elements = value.as_array()?;
     let name = elements.first()?.as_str()?;
     Some((name, known_operation(name)?, elements.len() - 1))
 }
 
-/// What an operation takes.
+/// Says which operands and arguments an operation takes.
 fn takes(alloc: Global, operation: &Operation) -> Result<String, AllocError> {
     let operands = match operation.operands {
         1 => "an operand",
@@ -136,7 +137,7 @@ fn takes(alloc: Global, operation: &Operation) -> Result<String, AllocError> {
     }
 }
 
-/// Why an element of a node is no argument.
+/// Says why the element at `index` of a node is not the argument that its operation takes there.
 pub(crate) fn why_argument(
     alloc: Global,
     node_value: &Value,
@@ -154,7 +155,7 @@ pub(crate) fn why_argument(
     format!(in alloc; "{} of \"{name}\" is {form}, and {what}", argument.name)
 }
 
-/// What is wrong with a value of a form: all of it, or one of its items.
+/// Says what is wrong with a value that should have this form: an item of it, or the whole value.
 fn wrong(alloc: Global, form: Form, value: &Value) -> Result<String, AllocError> {
     if let Some(list) = value.as_array() {
         for (index, item) in list.iter().enumerate() {
@@ -168,7 +169,7 @@ fn wrong(alloc: Global, form: Form, value: &Value) -> Result<String, AllocError>
     format!(in alloc; "this is {what}")
 }
 
-/// Whether a value is an item of an argument of this form.
+/// Returns whether a value may be an item of an argument of this form.
 fn is_item(form: Form, item: &Value) -> bool {
     match form {
         Form::Size | Form::Value => true,

@@ -1,6 +1,8 @@
-//! What each operation takes, in words.
+//! What each operation takes, for the words of reasons. It repeats the table of `expr_reader`
+//! (`specs/Table` there) with the names of arguments of docs/REQUEST.md: an operation that is added
+//! there is added here.
 
-/// What an argument has to be.
+/// The form of an argument.
 #[derive(Clone, Copy, Debug, Eq, PartialEq)]
 pub(crate) enum Form {
     Size,
@@ -11,7 +13,7 @@ pub(crate) enum Form {
 }
 
 impl Form {
-    /// The form, as a sentence has it.
+    /// Returns the form in words.
     pub(crate) fn words(self) -> &'static str {
         match self {
             Form::Size => "a whole number from 0 to 9223372036854775807",
@@ -23,14 +25,14 @@ impl Form {
     }
 }
 
-/// An argument: what the documents call it, and its form.
+/// An argument of an operation: its name in the documents, and its form.
 #[derive(Clone, Copy, Debug)]
 pub(crate) struct Argument {
     pub(crate) name: &'static str,
     pub(crate) form: Form,
 }
 
-/// What stands behind the name of an operation, and from which version on there is one.
+/// What follows the name of an operation in a node, and the first version that has the operation.
 #[derive(Clone, Copy, Debug)]
 pub(crate) struct Operation {
     pub(crate) version: u64,
@@ -40,7 +42,7 @@ pub(crate) struct Operation {
 }
 
 impl Operation {
-    /// How many arguments stand behind the operands.
+    /// Returns how many arguments follow the operands.
     pub(crate) fn arguments(&self) -> usize {
         match (self.first, self.second) {
             (None, _) => 0,
@@ -49,7 +51,8 @@ impl Operation {
         }
     }
 
-    /// The argument with this index among the elements of a node.
+    /// Returns the argument at this index of a node. The index of the first argument is the number
+    /// of operands plus 1.
     pub(crate) fn argument(&self, index: usize) -> Option<Argument> {
         if index == self.operands.checked_add(1)? {
             self.first
@@ -59,7 +62,7 @@ impl Operation {
     }
 }
 
-/// The operation of a name, in any version.
+/// Returns the operation with this name, of any version.
 pub(crate) fn known_operation(name: &str) -> Option<Operation> {
     on_values(name)
         .or(movement(name))
@@ -69,7 +72,7 @@ pub(crate) fn known_operation(name: &str) -> Option<Operation> {
         .or(along_one_axis(name))
 }
 
-/// An operation on so many operands, without arguments.
+/// Returns an operation of version 1 without arguments.
 fn plain(operands: usize) -> Operation {
     Operation {
         version: 1,
@@ -79,7 +82,7 @@ fn plain(operands: usize) -> Operation {
     }
 }
 
-/// An operation on so many operands, with an argument behind them.
+/// Returns an operation of version 1 with one argument after its operands.
 fn with(operands: usize, name: &'static str, form: Form) -> Operation {
     Operation {
         first: Some(Argument { name, form }),
@@ -132,7 +135,7 @@ fn along_axes(name: &str) -> Option<Operation> {
     }
 }
 
-/// An operation of version 2 alone.
+/// Returns the operation with this name that version 2 adds.
 fn added(name: &str) -> Option<Operation> {
     let operation = match name {
         "stride" => with(1, "STEPS", Form::Sizes),
@@ -147,7 +150,7 @@ fn added(name: &str) -> Option<Operation> {
     })
 }
 
-/// An operation on whole numbers, of version 3 alone.
+/// Returns the operation on integers with this name, which version 3 adds.
 fn on_integers(name: &str) -> Option<Operation> {
     let operands = match name {
         "bit_not" => 1,
@@ -161,7 +164,7 @@ fn on_integers(name: &str) -> Option<Operation> {
     })
 }
 
-/// An operation along one axis, of version 3 alone.
+/// Returns the operation along one axis with this name, which version 3 adds.
 fn along_one_axis(name: &str) -> Option<Operation> {
     let operands = match name {
         "cumsum" | "cumprod" | "argmax" | "argmin" => 1,

@@ -1,13 +1,14 @@
-//! Why a concatenation, a contraction or a convolution of two operands fails.
+//! Reasons why two operands do not fit a concatenation, a contraction or a convolution. The checks
+//! are made in the order of `tensor_terms`, so the reason is the one of the fault that was found.
 
 use crate::sizes::{no_axis, places, sizes_in, why_axes, why_illegal};
 use serde_json::Value;
 use std::alloc::{AllocError, Global};
 
-/// The most products that a convolution is worked out from.
+/// The most products of a convolution in a request text.
 const MOST_PRODUCTS: u64 = 1_073_741_824;
 
-/// Why two operands can't stand one behind the other along an axis.
+/// Says why two operands can't be concatenated along an axis.
 pub(crate) fn why_concat(
     alloc: Global,
     version: u64,
@@ -38,7 +39,7 @@ pub(crate) fn why_concat(
     why_illegal(alloc, version, joined.as_slice())
 }
 
-/// The first axis but one at which dims differ.
+/// Returns the first axis, other than `axis`, at which the dims differ.
 fn differs_at(axis: usize, first: &[u64], second: &[u64]) -> Option<usize> {
     for (index, (size, other)) in first.iter().zip(second.iter()).enumerate() {
         if index != axis && size != other {
@@ -48,7 +49,7 @@ fn differs_at(axis: usize, first: &[u64], second: &[u64]) -> Option<usize> {
     None
 }
 
-/// The first dims, with the second one's on top at an axis.
+/// Returns the dims of two operands concatenated along an axis.
 fn joined(
     alloc: Global,
     axis: usize,
@@ -63,7 +64,7 @@ fn joined(
     Ok(sizes)
 }
 
-/// Why pairs of axes don't join two operands.
+/// Says why two operands can't be contracted over these pairs of axes.
 pub(crate) fn why_contract(
     alloc: Global,
     version: u64,
@@ -99,7 +100,7 @@ pub(crate) fn why_contract(
     why_illegal(alloc, version, outer.as_slice())
 }
 
-/// The first and the second number of each pair.
+/// Returns the first number of each pair, and the second number of each.
 fn pairs_in(alloc: Global, argument: &Value) -> Result<Option<(Vec<u64>, Vec<u64>)>, AllocError> {
     let Some(list) = argument.as_array() else {
         return Ok(None);
@@ -119,7 +120,7 @@ fn pairs_in(alloc: Global, argument: &Value) -> Result<Option<(Vec<u64>, Vec<u64
     Ok(Some((firsts, seconds)))
 }
 
-/// The dims that aren't at one of these axes.
+/// Appends the dims whose axis is not one of `axes`.
 fn push_others(axes: &[u64], dims: &[u64], others: &mut Vec<u64>) -> Result<(), AllocError> {
     for (axis, size) in dims.iter().enumerate() {
         if !axes.contains(&(axis as u64)) {
@@ -129,7 +130,7 @@ fn push_others(axes: &[u64], dims: &[u64], others: &mut Vec<u64>) -> Result<(), 
     Ok(())
 }
 
-/// Why a kernel doesn't lie along these axes.
+/// Says why a kernel does not fit these axes of an operand.
 pub(crate) fn why_convolve(
     alloc: Global,
     argument: &Value,
@@ -167,7 +168,7 @@ pub(crate) fn why_convolve(
     why_many(alloc, slid.as_slice(), kernel)
 }
 
-/// That a convolution has too many products, as it has where nothing else is wrong.
+/// Says that a convolution has too many products. It is the last check, so no other reason is left.
 fn why_many(alloc: Global, slid: &[u64], kernel: &[u64]) -> Result<Option<String>, AllocError> {
     let (result, each) = (places(slid), places(kernel));
     let reason = format!(in alloc;

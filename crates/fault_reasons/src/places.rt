@@ -1,10 +1,11 @@
-//! The values at places.
+//! Finds what is at a place of a request's JSON value. A place comes from `expr_reader`, whose walk
+//! counts nodes as `nodes_before` does here.
 
 use crate::operations::known_operation;
 use expr_reader::Place;
 use serde_json::Value;
 
-/// What stands at a place of a text.
+/// Returns the value at a place.
 pub(crate) fn value_at<'v>(root: &'v Value, place: &Place<'_>) -> Option<&'v Value> {
     match place {
         Place::Whole => Some(root),
@@ -14,7 +15,7 @@ pub(crate) fn value_at<'v>(root: &'v Value, place: &Place<'_>) -> Option<&'v Val
     }
 }
 
-/// The node that an element stands in, and the element's index.
+/// Returns the node that has the value at a place as an element, and the element's index.
 pub(crate) fn above<'v>(root: &'v Value, place: &Place<'_>) -> Option<(&'v Value, usize)> {
     let Place::Node(indices) = place else {
         return None;
@@ -25,7 +26,8 @@ pub(crate) fn above<'v>(root: &'v Value, place: &Place<'_>) -> Option<(&'v Value
     Some((node_at(root, way)?, *index as usize))
 }
 
-/// What these indices lead to in the expression, the last of which stands first.
+/// Returns the value in the expression to which these indices lead; the innermost index is the
+/// first.
 fn node_at<'v>(root: &'v Value, indices: &[u8]) -> Option<&'v Value> {
     let mut value = root.get("expr")?;
     for index in indices.iter().rev() {
@@ -34,8 +36,8 @@ fn node_at<'v>(root: &'v Value, indices: &[u8]) -> Option<&'v Value> {
     Some(value)
 }
 
-/// How many nodes the walk over the expression has met before the one at a place: those on the way
-/// to it, and all of the operands on the left of the way, which have no fault.
+/// Returns how many nodes the reader's walk meets before the node at a place: the nodes on the way
+/// to it, and all nodes of the operands before the way, which have no fault.
 pub(crate) fn nodes_before(root: &Value, place: &Place<'_>) -> u64 {
     let (Place::Node(indices), Some(expr)) = (place, root.get("expr")) else {
         return 0;
@@ -54,7 +56,7 @@ pub(crate) fn nodes_before(root: &Value, place: &Place<'_>) -> u64 {
     nodes
 }
 
-/// The nodes of a node's operands on the left of this index.
+/// Returns how many nodes the operands before this index have.
 fn nodes_left(value: &Value, index: usize) -> u64 {
     let mut nodes = 0u64;
     if let Some(elements) = value.as_array() {
@@ -65,7 +67,7 @@ fn nodes_left(value: &Value, index: usize) -> u64 {
     nodes
 }
 
-/// The nodes of an expression without a fault.
+/// Returns how many nodes an expression without a fault has.
 fn nodes_in(value: &Value) -> u64 {
     match value {
         Value::Array(elements) => {
@@ -82,7 +84,7 @@ fn nodes_in(value: &Value) -> u64 {
     }
 }
 
-/// How many operands stand behind the name of a node's operation.
+/// Returns how many operands a node has.
 fn operands_of(elements: &[Value]) -> usize {
     let Some(name) = elements.first().and_then(Value::as_str) else {
         return 0;

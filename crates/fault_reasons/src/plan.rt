@@ -1,4 +1,5 @@
-//! The steps that a request without a fault is worked out in.
+//! The lines about a request without a fault: the dims of its result, and the steps of its plan.
+//! The plan is the one of `tensor_reduce`; the lines after the first are only tested.
 
 ghost use Rattle.expr_reader.specs.Asked.{IsUnbound};
 ghost use Rattle.std.specs.Prelude.{IfOk};
@@ -8,7 +9,7 @@ use expr_reader::{Fault, Parsed, Request, read_part};
 use std::alloc::{AllocError, Global};
 use tensor_reduce::{Plan, Step};
 
-/// That a request has no fault, the dims of its result, and a line for each step.
+/// Returns the line `no fault`, the line of the dims, and a line for each step.
 pub(crate) fn plan_lines(alloc: Global, parsed: &Parsed) -> Result<Vec<u8>, AllocError>
     ensures { IfOk result (λ lines. TellsOfNone lines.items) }
 {
@@ -18,7 +19,8 @@ pub(crate) fn plan_lines(alloc: Global, parsed: &Parsed) -> Result<Vec<u8>, Allo
     Ok(lines)
 }
 
-/// The dims of the result and a line for each step, of a text that asks for some.
+/// Returns the line of the dims and the lines of the steps. They are empty if the value has a fault
+/// after all.
 fn steps_of(alloc: Global, parsed: &Parsed) -> Result<String, AllocError> {
     let Some(expr) = parsed.value.get("expr") else {
         return Ok(String::new(alloc));
@@ -30,7 +32,7 @@ fn steps_of(alloc: Global, parsed: &Parsed) -> Result<String, AllocError> {
     }
 }
 
-/// The same of a request.
+/// Returns the line of the dims and the lines of the steps of a request.
 fn steps(alloc: Global, request: &Request) -> Result<String, AllocError>
     requires { IsUnbound request.now }
 {
@@ -45,7 +47,7 @@ fn steps(alloc: Global, request: &Request) -> Result<String, AllocError>
     Ok(lines)
 }
 
-/// The line of a step: its dims, and how many values it works out.
+/// Returns the line of a step: its number, its dims, and how many values it computes.
 fn step_line(alloc: Global, index: usize, step: &Step) -> Result<String, AllocError> {
     let dims = step.dims();
     let number = index.saturating_add(1);

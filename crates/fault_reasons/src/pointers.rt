@@ -1,4 +1,5 @@
-//! Places as JSON pointers (RFC 6901).
+//! Places as JSON pointers (RFC 6901). `specs/Pointer` defines them; `lines.rt` escapes them once
+//! more.
 
 ghost use Rattle.std.specs.Prelude.{◌≡◌, ◌++◌, map, reverse, OnOk, IfOk};
 ghost use Rattle.expr_reader.specs.Place.{index, field};
@@ -8,7 +9,7 @@ ghost use Rattle.fault_reasons.specs.Pointer.{escaped, step_text, pointer_of};
 use expr_reader::Place;
 use std::alloc::{AllocError, Global};
 
-/// The pointer to a place: empty for the whole text.
+/// Returns the JSON pointer of a place. The pointer of the whole value is empty.
 pub fn pointer(alloc: Global, place: &Place<'_>) -> Result<Vec<u8>, AllocError>
     ensures { IfOk result (λ text. text.items ≡ pointer_of (steps_under place.now)) }
 {
@@ -28,7 +29,7 @@ pub fn pointer(alloc: Global, place: &Place<'_>) -> Result<Vec<u8>, AllocError>
     Ok(text)
 }
 
-/// Appends the step to the member of a name.
+/// Appends the step to the member with this name.
 fn push_name(text: &mut Vec<u8>, name: &str) -> Result<(), AllocError>
     ensures { OnOk result (text.new.items ≡ text.old.items ++ step_text (field name.now)) }
 {
@@ -39,7 +40,7 @@ fn push_name(text: &mut Vec<u8>, name: &str) -> Result<(), AllocError>
     Ok(())
 }
 
-/// Appends a byte of a name.
+/// Appends a byte of a name: `~` as `~0`, `/` as `~1`.
 fn push_escaped(text: &mut Vec<u8>, byte: u8) -> Result<(), AllocError>
     ensures { OnOk result (text.new.items ≡ text.old.items ++ escaped byte) }
 {
@@ -53,7 +54,7 @@ fn push_escaped(text: &mut Vec<u8>, byte: u8) -> Result<(), AllocError>
     Ok(())
 }
 
-/// Appends the steps to the elements of these indices, the last of which stands first.
+/// Appends the steps to the elements with these indices; the innermost index is the first.
 fn push_indices(alloc: Global, text: &mut Vec<u8>, indices: &[u8]) -> Result<(), AllocError>
     ensures { OnOk result
         (text.new.items ≡ text.old.items ++ pointer_of (map index (reverse indices.now))) }

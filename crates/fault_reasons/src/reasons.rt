@@ -1,4 +1,5 @@
-//! Why a fault is one: what stands at its place, and what should.
+//! Chooses the reason for a fault by its number and its place. A new fault, or a fault at a new
+//! kind of place, needs an arm here; otherwise its reason is only the fault's name in words.
 
 use crate::fields::{why_block, why_fields, why_version, why_workers};
 use crate::nodes::{why_argument, why_arity, why_input, why_node, why_operation};
@@ -10,7 +11,7 @@ use expr_reader::{Fault, Located, MAX_NODES, Parsed, Place};
 use serde_json::Value;
 use std::alloc::{AllocError, Global};
 
-/// Why there is this fault.
+/// Says why a text has this fault at this place.
 pub(crate) fn why(
     alloc: Global,
     parsed: &Parsed,
@@ -41,7 +42,7 @@ pub(crate) fn why(
     }
 }
 
-/// Why an element of a node is no operation or no argument, or why a value is no node.
+/// Says why an element of a node is not an operation or an argument, or why a value is not a node.
 fn why_element(
     alloc: Global,
     version: u64,
@@ -56,7 +57,7 @@ fn why_element(
     }
 }
 
-/// Why the own checks of a node fail.
+/// Says why the dims or arguments of a node fail its operation's checks.
 fn why_checks(
     alloc: Global,
     parsed: &Parsed,
@@ -79,7 +80,7 @@ fn why_checks(
     why_shapes(alloc, parsed, call, operands)
 }
 
-/// Why a node has no place any more in an expression.
+/// Says that a node is one more than an expression may have.
 fn why_too_many(alloc: Global) -> Result<String, AllocError> {
     format!(in alloc; "this is the 1001st node, and an expression has at most {MAX_NODES}")
 }

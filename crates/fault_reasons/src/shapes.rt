@@ -1,4 +1,5 @@
-//! Why an operation's own checks fail.
+//! Reasons for the faults ShapeMismatch, OutOfRange and TooLarge of a node. The operands are read
+//! again for their dims; `movements.rt` and `pairs.rt` have the reasons of single operations.
 
 use crate::movements::{
     why_broadcast, why_chip, why_lengths, why_order, why_pad, why_reshape, why_slice, why_steps,
@@ -9,7 +10,7 @@ use expr_reader::{Dims, Fault, Parsed, read_part};
 use serde_json::Value;
 use std::alloc::{AllocError, Global};
 
-/// A node whose operands have result dims: the name of its operation, and the arguments.
+/// The operation of a node by its name, its arguments, and the version of the text.
 #[derive(Clone, Copy)]
 pub(crate) struct Call<'v> {
     pub(crate) version: u64,
@@ -17,7 +18,8 @@ pub(crate) struct Call<'v> {
     pub(crate) arguments: &'v [Value],
 }
 
-/// Why the own checks of a node fail, whose operands have none.
+/// Says why the dims of these operands, or the arguments, fail an operation's checks. The operands
+/// themselves have no fault.
 pub(crate) fn why_shapes(
     alloc: Global,
     parsed: &Parsed,
@@ -49,12 +51,12 @@ pub(crate) fn why_shapes(
     }
 }
 
-/// What is said where no more is known.
+/// Says only that the dims do not fit the operation, if no better reason is known.
 fn general(alloc: Global, call: Call<'_>) -> Result<String, AllocError> {
     format!(in alloc; "the dims of the operands don't fit \"{}\"", call.name)
 }
 
-/// The result dims of an operand.
+/// Returns the result dims of an operand.
 fn dims_of(alloc: Global, parsed: &Parsed, operand: &Value) -> Result<Option<Dims>, AllocError> {
     match read_part(alloc, parsed, operand) {
         Ok(request) => Ok(request.expr.dims(&request.inputs).ok()),
@@ -63,7 +65,7 @@ fn dims_of(alloc: Global, parsed: &Parsed, operand: &Value) -> Result<Option<Dim
     }
 }
 
-/// Why an operation on one operand fails, if it is known.
+/// Says why the dims of the operand, or the arguments, fail the checks, if it is known.
 fn why_one(alloc: Global, call: Call<'_>, dims: &[u64]) -> Result<Option<String>, AllocError> {
     let Some(argument) = call.arguments.first() else {
         return Ok(None);
@@ -80,7 +82,7 @@ fn why_one(alloc: Global, call: Call<'_>, dims: &[u64]) -> Result<Option<String>
     }
 }
 
-/// The same where its argument is a list of sizes.
+/// Says why a list of sizes does not fit the dims of the operand, if it is known.
 fn why_sizes(
     alloc: Global,
     call: Call<'_>,
@@ -96,7 +98,7 @@ fn why_sizes(
     }
 }
 
-/// Why an operation on two operands fails, if it is known.
+/// Says why the dims of two operands, or the arguments, fail the checks, if it is known.
 fn why_two(
     alloc: Global,
     call: Call<'_>,

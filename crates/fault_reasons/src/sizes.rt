@@ -1,17 +1,19 @@
-//! Sizes: whether they are legal dims, and lists of them that a text has.
+//! Checks of sizes that several operations share, with their reasons: legal dims, and lists of
+//! axes. The limits of texts are written here again: a new limit of `expr_reader` changes
+//! them too.
 
 use serde_json::Value;
 use std::alloc::{AllocError, Global};
 
-/// The most places of a tensor.
+/// The largest product of the dims of a tensor in a request text.
 const MOST_PLACES: u64 = 1_048_576;
 
-/// The highest rank of a version.
+/// Returns the highest rank that a version allows.
 fn highest_rank(version: u64) -> usize {
     if version == 1 { 6 } else { 8 }
 }
 
-/// The product of sizes, a 0 counted as 1, or the greatest number of 64 bits where it is past that.
+/// Returns the product of sizes, with a 0 counted as 1, or `u64::MAX` if it is larger.
 pub(crate) fn product(sizes: &[u64]) -> u64 {
     let mut product = 1u64;
     for size in sizes {
@@ -20,7 +22,7 @@ pub(crate) fn product(sizes: &[u64]) -> u64 {
     product
 }
 
-/// How many places dims have, or the greatest number of 64 bits where they are more.
+/// Returns the product of sizes, or `u64::MAX` if it is larger.
 pub(crate) fn places(sizes: &[u64]) -> u64 {
     let mut product = 1u64;
     for size in sizes {
@@ -29,7 +31,7 @@ pub(crate) fn places(sizes: &[u64]) -> u64 {
     product
 }
 
-/// Why sizes are no legal dims in a version, if they aren't.
+/// Says why sizes are not legal dims in a version, if they are not.
 pub(crate) fn why_illegal(
     alloc: Global,
     version: u64,
@@ -59,7 +61,7 @@ pub(crate) fn why_illegal(
     Ok(None)
 }
 
-/// The sizes of a list, if it is one.
+/// Returns the sizes of a list. `None` if the value is not a list of whole numbers from 0 up.
 pub(crate) fn sizes_in(alloc: Global, value: &Value) -> Result<Option<Vec<u64>>, AllocError> {
     let Some(list) = value.as_array() else {
         return Ok(None);
@@ -74,7 +76,7 @@ pub(crate) fn sizes_in(alloc: Global, value: &Value) -> Result<Option<Vec<u64>>,
     Ok(Some(sizes))
 }
 
-/// That a result is past 64 bits along an axis.
+/// Says that a result has more places along an axis than fit in 64 bits.
 pub(crate) fn past_words(alloc: Global, axis: usize) -> Result<Option<String>, AllocError> {
     let rule = format!(in alloc; "the product of its dims is at most {MOST_PLACES}")?;
     let reason = format!(in alloc;
@@ -84,7 +86,7 @@ pub(crate) fn past_words(alloc: Global, axis: usize) -> Result<Option<String>, A
     Ok(Some(reason))
 }
 
-/// That these dims have no such axis.
+/// Says that these dims have no such axis.
 pub(crate) fn no_axis(
     alloc: Global,
     axis: u64,
@@ -94,7 +96,7 @@ pub(crate) fn no_axis(
     Ok(Some(reason))
 }
 
-/// Why axes aren't each one of these dims' and none twice, if they aren't.
+/// Says which of these axes the dims do not have, or which is there twice, if there is one.
 pub(crate) fn why_axes(
     alloc: Global,
     name: &str,

@@ -1,17 +1,18 @@
-//! Why an input is no tensor.
+//! Reasons for the fault BadTensor. The checks are made in the order of `expr_reader`
+//! (`specs/Tensors` there).
 
 use crate::found::found;
 use crate::sizes::why_illegal;
 use serde_json::Value;
 use std::alloc::{AllocError, Global};
 
-/// Why the inputs as a whole are none.
+/// Says why the value of the field `inputs` is not an object.
 pub(crate) fn why_inputs(alloc: Global, value: &Value) -> Result<String, AllocError> {
     let what = found(alloc, value)?;
     format!(in alloc; "the inputs are an object of tensors, and this is {what}")
 }
 
-/// Why a value is no tensor of a version.
+/// Says why a value is not a tensor in this version.
 pub(crate) fn why_tensor(alloc: Global, version: u64, value: &Value) -> Result<String, AllocError> {
     let Some(members) = value.as_object() else {
         let what = found(alloc, value)?;
@@ -35,7 +36,7 @@ pub(crate) fn why_tensor(alloc: Global, version: u64, value: &Value) -> Result<S
     }
 }
 
-/// Why a value is no dims of a tensor of a version, if it isn't.
+/// Says why a value is not the dims of a tensor in this version, if it is not.
 fn why_dims(alloc: Global, version: u64, value: &Value) -> Result<Option<String>, AllocError> {
     let Some(list) = value.as_array() else {
         let what = found(alloc, value)?;
@@ -58,7 +59,7 @@ fn why_dims(alloc: Global, version: u64, value: &Value) -> Result<Option<String>
     why_illegal(alloc, version, sizes.as_slice())
 }
 
-/// Why a value is no data of a tensor of these dims, which are legal.
+/// Says why a value is not the data of a tensor with these dims, which are legal.
 fn why_data(alloc: Global, dims: &Value, value: &Value) -> Result<String, AllocError> {
     let Some(list) = value.as_array() else {
         let what = found(alloc, value)?;

@@ -1,10 +1,11 @@
-//! Why a text can't be read at all.
+//! Reasons for the faults TooLong and NotJson. The JSON parser gives the line, the column and the
+//! byte of an error.
 
 use expr_reader::Fault;
 use serde_json::Value;
 use std::alloc::{AllocError, Global};
 
-/// Why a text is too long or no JSON.
+/// Says why a text is too long or is not JSON.
 pub(crate) fn why_text(alloc: Global, fault: Fault, text: &[u8]) -> Result<String, AllocError> {
     match fault {
         Fault::TooLong => format!(in alloc;
@@ -16,7 +17,7 @@ pub(crate) fn why_text(alloc: Global, fault: Fault, text: &[u8]) -> Result<Strin
     }
 }
 
-/// Why a text is no JSON, and where.
+/// Says why a text is not JSON, and at which byte.
 fn why_json(alloc: Global, text: &[u8]) -> Result<String, AllocError> {
     match str::from_utf8(text) {
         Ok(text) => match Value::from_str(alloc, text) {
@@ -32,7 +33,7 @@ fn why_json(alloc: Global, text: &[u8]) -> Result<String, AllocError> {
     }
 }
 
-/// That a text ends too early: in which line, how many bytes stand there, and how many in all.
+/// Says that a text ends too early: in which line and column, and after how many bytes.
 fn why_end(alloc: Global, text: &[u8]) -> Result<String, AllocError> {
     let mut line = 1usize;
     let mut column = 0usize;
@@ -50,7 +51,7 @@ fn why_end(alloc: Global, text: &[u8]) -> Result<String, AllocError> {
     )
 }
 
-/// How many bytes stand before a column of a line, both counted from 1.
+/// Returns how many bytes come before a column of a line, both counted from 1.
 fn byte_at(text: &[u8], line: usize, column: usize) -> usize {
     let mut lines = 1usize;
     for (index, byte) in text.iter().enumerate() {

@@ -1,14 +1,15 @@
 -- Frames of answers, and how they are written.
-use Rattle.std.proofs.Common.{◌≡◌, ◌≢◌, ◌⊎◌, ◌<◌, ◌+◌, ◌-◌, ℕ, ℤ, Bool, true, false, ◌*◌, List, [], ◌∷◌, ◌++◌, length, map, take, drop, get_or, set, Option, Some, None, Result, Ok, Err, OnErr}
-use Rattle.std.proofs.Common.{refl, ap, sym, ◌∙◌, subst, append_assoc, arith, length-append, inl, inr}
-use Rattle.std.specs.Prelude.{nat_lt, if◌then◌else◌}
+use Rattle.std.proofs.Common.{◌≡◌, ◌≢◌, ◌⊎◌, ◌<◌, ◌≤◌, ◌+◌, ◌-◌, ◌/◌, ℕ, ℤ, Bool, true, false, ◌*◌, List, [], ◌∷◌, ◌++◌, length, map, take, drop, get_or, set, Option, Some, None, Result, Ok, Err, OnErr}
+use Rattle.std.proofs.Common.{option_map, refl, ap, sym, ◌∙◌, subst, append_assoc, arith, length-append, inl, inr}
+use Rattle.std.specs.Prelude.{nat_lt, if◌then◌else◌, MatchBool}
 use Rattle.std.specs.Cow.{cow_slice_items}
 use Rattle.std.specs.List.{flat_map}
 use Rattle.std.proofs.Math.Seq.{take-add, take-append-add}
 use Rattle.std.proofs.Math.Decide.{dec_le}
 use Rattle.std.proofs.Math.Nat.{lt_of_not-le}
 use Rattle.std.proofs.lemmas.Bool.{lt-ltb}
-use Rattle.std.proofs.lemmas.List.{take_more_set, take_more, map-append, take-append-drop, take-append-le, length-drop, length-take-le}
+use Rattle.std.proofs.lemmas.Nat.{le-div}
+use Rattle.std.proofs.lemmas.List.{append-nil, take_more_set, take_more, map-append, take-append-drop, take-append-le, length-drop, length-take-le}
 use Rattle.std.proofs.lemmas.List.Concat.{flat_map-append}
 use Rattle.std.specs.Io.KnownBytes.{Appends}
 use Rattle.expr_reader.specs.Asked.{asked_under}
@@ -29,12 +30,13 @@ use Rattle.tensor_runner.specs.declared.journal.AnyFault.{AnyFault}
 use Rattle.tensor_runner.specs.declared.journal.AnyFault.TheVariants as any
 use Rattle.tensor_runner.specs.declared.limits.LimitFault.{LimitFault}
 use Rattle.tensor_runner.specs.declared.limits.Limits.{Limits}
+use Rattle.message_server.specs.History.{History, writing, AddsAtMost}
 use Rattle.message_server.specs.Pieces.{AppendsFront}
 use Rattle.message_server.proofs.Streams.{Appends-trans}
 use Rattle.frame_server.specs.Answer.{answer_of, answer_bytes, IsAnswerTo, IsShort}
-use Rattle.frame_server.specs.private.Answering.{front_bytes, bytes_in, values_in, Says, IsFrameUnder, IsFaultOf, IsFaultFrame, IsTensorFrame, IsOwnFrame}
+use Rattle.frame_server.specs.private.Answering.{front_bytes, bytes_in, values_in, Says, IsFrameRead, IsFrameUnder, IsFrameFrom, SaysTooLong, IsFaultOf, IsFaultFrame, IsTensorFrame, IsOwnFrame}
 use Rattle.frame_server.specs.Frame.{Frame, frame_bytes, frame_in, header_len, value_count, number_bytes, value_bytes, IsWhole}
-use Rattle.frame_server.specs.Limited.{frame_unless, limit_frame, request_in, IsFrameWithin}
+use Rattle.frame_server.specs.Limited.{frame_unless, frame_read, limit_frame, request_in, is_longer, IsFrameWithin}
 use Rattle.frame_server.specs.private.Taking.{IsTooLong, IsPassed, frame_under}
 use Rattle.frame_server.specs.declared.frame.AnswerFrame.{AnswerFrame}
 use Rattle.frame_server.specs.declared.frame.WholeFrame.{WholeFrame}
@@ -59,7 +61,7 @@ cells-push cells values k x d within some is before =
     ∙ sym (map-append value_bytes (take k values) (get_or values k d ∷ []))
     ∙ ap (λ (l : List ℤ). map value_bytes l) (sym (take_more values k d some))
 
--- a front of what stands behind something is a front of all
+-- a prefix of what stands behind something is, with it, a prefix of the whole
 pub AppendsFront-behind : (a b c : Option (List ℕ)) (xs ys more all : List ℕ) → Appends a b xs → AppendsFront b c ys → all ≡ xs ++ (ys ++ more) → AppendsFront a c all
 AppendsFront-behind a b c xs ys more all first front is =
     let within : front.0 < length ys = front.1 in
@@ -83,6 +85,40 @@ AppendsFront-more a b ys more front =
 pub OnErr-follows : {A E : Type 0} (r : Result A E) (X Y : Type 0) → (X → Y) → OnErr r X → OnErr r Y
 OnErr-follows (Ok x) X Y follows holds = tt
 OnErr-follows (Err e) X Y follows holds = follows holds
+
+-- no write
+pub writing-none : (h : Option History) → h ≡ option_map (writing []) h
+writing-none None = refl
+writing-none (Some h) = ap (λ (t : List ℕ). Some (record { taken = h.taken; written = t })) (sym (append-nil h.written))
+
+-- some writes and then others
+pub AddsAtMost-then : (m n : ℕ) (a b c : Option ℕ) → AddsAtMost m a b → AddsAtMost n b c → AddsAtMost (m + n) a c
+AddsAtMost-then m n None None c first next = next
+AddsAtMost-then m n None (Some x) c first next = absurd first
+AddsAtMost-then m n (Some w) None c first next = absurd first
+AddsAtMost-then m n (Some w) (Some x) None first next = absurd next
+AddsAtMost-then m n (Some w) (Some x) (Some y) first next =
+    let one : x ≤ w + m = first in
+    let two : y ≤ x + n = next in
+    omega (arith, one, two)
+
+-- as many writes as there are batches of values
+pub AddsAtMost-fits : (writes count : ℕ) (a b : Option ℕ) → AddsAtMost writes a b → 8192 * writes < count + 8192 → AddsAtMost ((count + 8191) / 8192) a b
+AddsAtMost-fits writes count None None adds fits = tt
+AddsAtMost-fits writes count None (Some x) adds fits = absurd adds
+AddsAtMost-fits writes count (Some w) None adds fits = absurd adds
+AddsAtMost-fits writes count (Some w) (Some x) adds fits =
+    let one : x ≤ w + writes = adds in
+    let few : writes ≤ (count + 8191) / 8192 = le-div writes (count + 8191) 8192 (omega arith) (omega (arith, fits)) in
+    omega (arith, one, few)
+
+-- one value more
+pub values-push : (values : List ℤ) (k : ℕ) (d : ℤ) → k < length values
+    → flat_map value_bytes (take (k + 1) values) ≡ flat_map value_bytes (take k values) ++ value_bytes (get_or values k d)
+values-push values k d some =
+    ap (λ (l : List ℤ). flat_map value_bytes l) (take_more values k d some)
+    ∙ flat_map-append value_bytes (take k values) (get_or values k d ∷ [])
+    ∙ ap (λ (l : List ℕ). flat_map value_bytes (take k values) ++ l) (append-nil (value_bytes (get_or values k d)))
 
 -- values in three parts
 pub values-parted : (values : List ℤ) (first count : ℕ)
@@ -124,7 +160,7 @@ too_long bytes whole (inl long) =
 too_long bytes whole (inr many) =
     request-long _ _ (inr (subst (λ (n : ℕ). values_limit (frame_in bytes).header < n) (sym (length-values_of (value_count bytes) (drop (16 + header_len bytes) bytes))) many))
 
--- what answers a frame that was passed over
+-- the answer to a frame that was skipped
 pub IsAnswerTo-passed : (bytes : List ℕ) (f : Fault) → IsWhole bytes → IsPassed (frame_in bytes).header (header_len bytes) (value_count bytes) f → IsAnswerTo bytes (fault f)
 IsAnswerTo-passed bytes f whole (inl memory) = inr (ap fault memory.0, memory.1)
 IsAnswerTo-passed bytes f whole (inr long) = inl (ap fault long.0 ∙ sym (too_long bytes whole long.1))
@@ -197,10 +233,10 @@ fault-frame : (limits : Limits) (r : Result Asked Fault) (f : Fault) → fault f
 fault-frame limits (Ok a) f is = absurd (fault_is_no_tensor f (asked_tensor a) is)
 fault-frame limits (Err g) f is = ap answer_bytes is
 
-IsFrameWithin-fault : (limits : Limits) (bytes : List ℕ) (f : Fault) (answer : List ℕ) → IsFaultOf bytes f → answer ≡ answer_bytes (fault f)
-    → IsFrameWithin limits bytes answer
-IsFrameWithin-fault limits bytes f answer (inl own) is = inl (is ∙ fault-frame limits (request_in (frame_in bytes)) f own)
-IsFrameWithin-fault limits bytes f answer (inr memory) is = inr (is ∙ ap answer_bytes memory.0, memory.1)
+IsFrameRead-fault : (limits : Limits) (bytes : List ℕ) (f : Fault) (answer : List ℕ) → IsFaultOf bytes f → answer ≡ answer_bytes (fault f)
+    → IsFrameRead limits bytes answer
+IsFrameRead-fault limits bytes f answer (inl own) is = inl (is ∙ fault-frame limits (request_in (frame_in bytes)) f own)
+IsFrameRead-fault limits bytes f answer (inr memory) is = inr (is ∙ ap answer_bytes memory.0, memory.1)
 
 -- what is no request has no steps
 steps-fault : (r : Result Asked Fault) (f : Fault) → fault f ≡ answer_from r → steps_in r ≡ None
@@ -218,12 +254,12 @@ HasSteps-none bytes f o steps (inr memory) is none = inr (is ∙ ap (λ (g : Fau
 pub IsFrameUnder-fault : (limits : Limits) (bytes : List ℕ) (f : Fault) (frame : AnswerFrame) → IsFaultOf bytes f → IsFaultFrame f frame → frame.steps ≡ None
     → IsFrameUnder limits bytes frame
 IsFrameUnder-fault limits bytes f frame of is none = record {
-  within = IsFrameWithin-fault limits bytes f (bytes_in frame) of is.bytes;
+  within = IsFrameRead-fault limits bytes f (bytes_in frame) of is.bytes;
   says = Says-of frame.fault (Some (any.Request f)) (bytes_in frame) is.fault is.bytes;
   has = HasSteps-none bytes f frame.fault frame.steps of is.fault none;
 }
 
--- the first fault of a frame, or want of memory
+-- the first fault of a frame, or `NoMemory`
 pub IsFaultOf-asked : (bytes : List ℕ) (frame : WholeFrame) (f : Fault) → frame_under frame ≡ frame_in bytes
     → (f ≡ NoMemory) ⊎ (request_of_frame frame.header.items frame.values.items ≡ Err f) → IsShort (header_len bytes) (value_count bytes)
     → IsFaultOf bytes f
@@ -250,3 +286,29 @@ short-fault bytes f whole (inl own) other = elim (IsShort-long (frame_in bytes).
   | inl long ↦ absurd (other (fault_of f (own ∙ too_long bytes whole long)))
   | inr short ↦ short
 ]
+
+-- a frame that is longer than the limit of bytes, or isn't
+pub IsFrameFrom-long : (limits : Limits) (bytes : List ℕ) (frame : AnswerFrame) → is_longer limits bytes ≡ true → bytes_in frame ≡ answer_bytes (fault TooLong)
+    → frame.fault ≡ Some (any.Request TooLong) → frame.steps ≡ None → IsFrameFrom limits bytes frame
+IsFrameFrom-long limits bytes frame long is says none =
+    subst (λ (b : Bool). MatchBool b (SaysTooLong frame) (IsFrameUnder limits bytes frame)) (sym long)
+    (record { says = record { bytes = is; fault = says }; none = none })
+
+pub IsFrameFrom-read : (limits : Limits) (bytes : List ℕ) (frame : AnswerFrame) → is_longer limits bytes ≡ false → IsFrameUnder limits bytes frame
+    → IsFrameFrom limits bytes frame
+IsFrameFrom-read limits bytes frame short is = subst (λ (b : Bool). MatchBool b (SaysTooLong frame) (IsFrameUnder limits bytes frame)) (sym short) is
+
+frame_by : Limits → List ℕ → Bool → List ℕ
+frame_by limits bytes long = if long then answer_bytes (fault TooLong) else frame_read limits bytes
+
+within_by : (limits : Limits) (bytes : List ℕ) (frame : AnswerFrame) (long : Bool) → is_longer limits bytes ≡ long
+    → MatchBool long (SaysTooLong frame) (IsFrameUnder limits bytes frame) → IsFrameWithin limits bytes (bytes_in frame)
+unfolding frame_by
+within_by limits bytes frame true long is = inl (is.says.bytes ∙ sym (ap (frame_by limits bytes) long))
+within_by limits bytes frame false short is = elim is.within [
+  | inl own ↦ inl (own ∙ sym (ap (frame_by limits bytes) short))
+  | inr memory ↦ inr (memory.0, memory.1, short)
+]
+
+pub IsFrameWithin-from : (limits : Limits) (bytes : List ℕ) (frame : AnswerFrame) → IsFrameFrom limits bytes frame → IsFrameWithin limits bytes (bytes_in frame)
+IsFrameWithin-from limits bytes frame is = within_by limits bytes frame (is_longer limits bytes) refl is

@@ -100,7 +100,7 @@ pub IsPassed-refused : (header : List ℕ) (header_len value_count : ℕ) (fault
 IsPassed-refused header header_len value_count fault short (inl memory) = inl (memory, short)
 IsPassed-refused header header_len value_count fault short (inr many) = inr (many.0, inr many.1)
 
--- a header, and all behind it passed over
+-- a header, and all behind it skipped
 pub TakesRest-behind : (a b c : Option (List ℕ)) (h k m : Option History) (old mid new : List ℕ) (head : Head) (header : List ℕ) (next : NextFrame) (count : ℕ)
     → Takes a b h k old mid header → length header ≡ head.header_len → TakesCount count b c k m mid new → count ≡ 8 * head.value_count
     → ((bytes : List ℕ) → take head.header_len bytes ≡ header → IsKeptRest head bytes next)

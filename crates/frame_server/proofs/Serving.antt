@@ -19,7 +19,7 @@ use Rattle.frame_server.specs.Stream.{EndsInside, StopsReading}
 use Rattle.frame_server.specs.declared.frame.NextFrame.{NextFrame}
 use Rattle.frame_server.proofs.Frames.{IsUnfinished-short}
 
--- a front that has a byte
+-- a prefix that has a byte
 IsCut-some : (bytes : List ℕ) → IsUnfinished bytes → 0 < length bytes → IsCut by_sizes bytes
 IsCut-some bytes unfinished some = record { unfinished = unfinished; no_end = λ last end. omega (arith, some, ap length end.0) }
 

@@ -1,4 +1,4 @@
--- What answers a frame.
+-- The answer to a frame, and the frame that says it.
 use Rattle.std.specs.Prelude.{◌≡◌, ◌⊎◌, ◌≤◌, ℕ, pos, List, [], ◌∷◌, ◌++◌, map, codes, decimal}
 use Rattle.expr_reader.specs.Faults.{fault_number, fault_name}
 use Rattle.expr_reader.specs.Frame.{request_of_frame}
@@ -12,29 +12,30 @@ use Rattle.frame_server.specs.Frame.{Frame, frame_in, frame_bytes, header_len, v
 abbrev pub answer_of : Frame → Answer
 answer_of f = answer_from (request_of_frame f.header f.values)
 
--- `{"dims":[..]}`
+-- the header of a tensor's frame, `{"dims":[..]}`
 abbrev pub dims_text : List ℕ → List ℕ
 dims_text dims = codes "{\"dims\":[" ++ (numbers_text (map pos dims) ++ codes "]}")
 
--- `error N Name`
+-- the header of a fault's frame, `error N Name`
 abbrev pub fault_text : Fault → List ℕ
 fault_text f = codes "error " ++ decimal (fault_number f) ++ 32 ∷ fault_name f
 
--- the frame that answers: a tensor's dims with its values, or a fault with none
+-- the frame of an answer: the dims of a tensor with its values, or a fault without values
 abbrev pub frame_of : Answer → Frame
 frame_of (tensor t) = record { header = dims_text t.dims; values = t.values }
 frame_of (fault f) = record { header = fault_text f; values = [] }
 
+-- the bytes of the frame of an answer
 abbrev pub answer_bytes : Answer → List ℕ
 answer_bytes a = frame_bytes (frame_of a)
 
--- a header of this length, with so many values, isn't too long, or is so only for its version
+-- a frame of these sizes isn't too long for every version; it may be too long for its own
 pub record IsShort (header_len value_count : ℕ) : Type 0 where
   pub header : header_len ≤ most_bytes
   pub values : value_count ≤ widest_values
 
--- the answer of the frame that these bytes are, or want of memory; but never that of a frame that
--- is too long whatever its version
+-- the answer to the frame that these bytes are, or the fault `NoMemory`; a frame that is too long
+-- for every version is never answered by `NoMemory`
 abbrev pub IsAnswerTo : List ℕ → Answer → Type 0
 IsAnswerTo bytes a =
     (a ≡ answer_of (frame_in bytes))

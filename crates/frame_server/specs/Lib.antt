@@ -1,5 +1,4 @@
 pub mod Answer
-pub mod Ending
 pub mod Frame
 pub mod Limited
 pub mod LimitedEnding

@@ -1,4 +1,4 @@
--- What a program over frames ends with that has limits.
+-- What a program ends with that answers frames under limits.
 use Rattle.std.specs.Prelude.{ℕ, List, Option}
 use Rattle.message_server.specs.Ending.{EndsServing}
 use Rattle.message_server.specs.declared.ending.Ending.{Ending}
@@ -7,8 +7,8 @@ use Rattle.frame_server.specs.Limited.{AnswersFramesWithin, BreaksOffWithin}
 use Rattle.frame_server.specs.Limited.{CutsFramesShortWithin}
 use Rattle.frame_server.specs.Stream.{StopsReading}
 
--- all frames were answered, or the reading stopped, or a write failed, by the numbers of failures of
--- reads and of writes, before and after
+-- the program ends in one of three ways: all frames were answered, the reading stopped, or a write
+-- failed. `reads` and `writes` are the numbers of failures of each stream, before and after.
 abbrev pub EndsWithin : Limits
     → Option (List ℕ) → Option (List ℕ) → Option (List ℕ) → Option (List ℕ)
     → ℕ × ℕ → ℕ × ℕ → Ending → Type 0

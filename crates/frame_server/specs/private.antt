@@ -1,4 +1,4 @@
--- What private clauses and proofs of this crate cite, and no other crate.
+-- Definitions that only the private clauses and the proofs of this crate cite.
 pub mod Answering
 pub mod Laws
 pub mod Parting

@@ -1,14 +1,17 @@
-//! The frame that answers a frame, whole in memory before it is written.
+//! The frame that answers a frame, built in memory before it is written. A change of its bytes
+//! touches specs/Answer.antt, docs/FRAMES.md and the Python client.
 
 ghost use Rattle.std.specs.Prelude.{◌≡◌, ◌⊎◌, ℕ, List, Ok, Err, Some, None, length, IfOk};
-ghost use Rattle.std.specs.Prelude.{MatchResult};
+ghost use Rattle.std.specs.Prelude.{◌++◌, ◌≤◌, MatchResult};
+ghost use Rattle.std.specs.List.{flat_map};
 ghost use Rattle.expr_reader.specs.Asked.{asked_under};
 ghost use Rattle.expr_reader.specs.Frame.{request_of_frame};
 ghost use Rattle.expr_reader.specs.Request.{asked_tensor};
 ghost use Rattle.frame_server.specs.Answer.{answer_bytes, dims_text, fault_text, IsShort};
 ghost use Rattle.frame_server.specs.private.Answering.{front_bytes, bytes_in, entry_of, IsOwnFrame, IsFaultOf};
-ghost use Rattle.frame_server.specs.private.Answering.{IsFrameUnder, IsTensorFrame, IsRefusal};
-ghost use Rattle.frame_server.specs.Frame.{IsWhole, frame_in, header_len, value_count};
+ghost use Rattle.frame_server.specs.private.Answering.{IsFrameFrom, IsFrameUnder, IsTensorFrame, IsFaultFrame};
+ghost use Rattle.frame_server.specs.private.Answering.{IsRefusal};
+ghost use Rattle.frame_server.specs.Frame.{IsWhole, frame_in, header_len, value_count, value_bytes};
 ghost use Rattle.frame_server.specs.Limited.{limit_frame};
 ghost use Rattle.frame_server.specs.private.Taking.{IsKept, frame_under};
 ghost use Rattle.tensor_runner.specs.Limited.{over_limits};
@@ -16,6 +19,7 @@ ghost use Rattle.tensor_runner.specs.Answer.{fault};
 ghost use Rattle.tensor_runner.specs.Work.{steps_of};
 
 use crate::frame::{AnswerFrame, NextFrame, WholeFrame};
+use crate::writing::VALUES_AT_ONCE;
 use expr_reader::{Fault, Request, Tensor, read_frame};
 use std::alloc::{AllocError, Global};
 use std::borrow::CowSlice;
@@ -25,19 +29,20 @@ use tensor_runner::{
     AnyFault, Entry, LimitFault, Limits, RunFault, eval, over_limits, steps_of, unsigned_text,
 };
 
-/// What stands before the values where there is no memory, which takes none: no values, and a
-/// header of 17 bytes.
+/// The frame if an allocation fails: the sizes 17 and 0, and a header of 17 bytes. Like the other
+/// constant frames, it needs no allocation itself.
 const NO_MEMORY: &[u8] = b"\x11\0\0\0\0\0\0\0\0\0\0\0\0\0\0\0error 15 NoMemory";
 
-/// The same of a frame that is too long: a header of 15 bytes.
+/// The frame for a frame that is too long: the sizes 15 and 0, and a header of 15 bytes.
 const TOO_LONG: &[u8] = b"\x0f\0\0\0\0\0\0\0\0\0\0\0\0\0\0\0error 1 TooLong";
 
-/// The same of the limits that a request may be over: headers of 23 and of 21 bytes.
+/// The frame for a request that asks for too many workers, with a header of 23 bytes.
 const TOO_MANY_WORKERS: &[u8] = b"\x17\0\0\0\0\0\0\0\0\0\0\0\0\0\0\0error 19 TooManyWorkers";
 
+/// The frame for a request that takes too many steps, with a header of 21 bytes.
 const TOO_MANY_STEPS: &[u8] = b"\x15\0\0\0\0\0\0\0\0\0\0\0\0\0\0\0error 20 TooManySteps";
 
-/// What is noted of a frame of so many bytes and of the frame that answers it.
+/// Returns the journal's note on a frame of `bytes` bytes that this frame answers.
 pub(crate) fn entry_of(bytes: u128, frame: &AnswerFrame) -> Entry
     ensures { result ≡ entry_of bytes frame.now }
 {
@@ -49,8 +54,25 @@ pub(crate) fn entry_of(bytes: u128, frame: &AnswerFrame) -> Entry
     }
 }
 
-/// The frame that answers one, under limits.
+/// Returns the frame that answers a frame under limits. A frame that is longer than the limit of
+/// bytes isn't read.
 pub(crate) fn answer<RT: Threads + Wait + Sync>(
+    rt: &RT,
+    alloc: Global,
+    limits: Limits,
+    next: NextFrame,
+) -> AnswerFrame
+    ensures { (bytes : List ℕ) → IsWhole bytes → IsKept bytes next
+        → IsFrameFrom limits bytes result }
+{
+    if limits.is_too_long(next.len()) {
+        return too_long();
+    }
+    answer_kept(rt, alloc, limits, next)
+}
+
+/// Returns the frame that answers a frame of no more bytes than the limits allow.
+fn answer_kept<RT: Threads + Wait + Sync>(
     rt: &RT,
     alloc: Global,
     limits: Limits,
@@ -65,7 +87,9 @@ pub(crate) fn answer<RT: Threads + Wait + Sync>(
     }
 }
 
-/// The frame of a tensor, or of the limit that its request is over, or the fault that there is.
+/// Returns the frame of the request's tensor, or of the limit that the request is over, or of
+/// `NoMemory` if the evaluation runs out of memory. A fault of the request's frame is returned as
+/// an error.
 fn answered<RT: Threads + Wait + Sync>(
     rt: &RT,
     alloc: Global,
@@ -81,7 +105,7 @@ fn answered<RT: Threads + Wait + Sync>(
     }
 }
 
-/// The same of a frame that was kept.
+/// Returns the answer to a frame that was kept, as `answered` does.
 fn answered_whole<RT: Threads + Wait + Sync>(
     rt: &RT,
     alloc: Global,
@@ -98,8 +122,8 @@ fn answered_whole<RT: Threads + Wait + Sync>(
     }
 }
 
-/// The frame of the tensor that a request asks for, or of the limit that it is over, or of want of
-/// memory.
+/// Returns the frame of the tensor that a request asks for, or of the limit that it is over, or of
+/// `NoMemory`.
 fn own_frame<RT: Threads + Wait + Sync>(
     rt: &RT,
     alloc: Global,
@@ -117,7 +141,7 @@ fn own_frame<RT: Threads + Wait + Sync>(
     }
 }
 
-/// The frame of a limit that a request of so many steps is over, which takes no memory.
+/// Returns the frame of the limit that a request of `steps` steps is over. It needs no allocation.
 fn limit_frame(fault: LimitFault, steps: u128) -> AnswerFrame
     ensures bytes { bytes_in result ≡ limit_frame fault }
     ensures fault { result.fault ≡ Some (AnyFault.Limit fault) }
@@ -129,6 +153,7 @@ fn limit_frame(fault: LimitFault, steps: u128) -> AnswerFrame
     }
 }
 
+/// Returns the frame for a request of `steps` steps that asks for too many workers.
 fn too_many_workers(steps: u128) -> AnswerFrame
     ensures bytes { bytes_in result ≡ limit_frame LimitFault.TooManyWorkers }
     ensures fault { result.fault ≡ Some (AnyFault.Limit LimitFault.TooManyWorkers) }
@@ -142,6 +167,7 @@ fn too_many_workers(steps: u128) -> AnswerFrame
     }
 }
 
+/// Returns the frame for a request that takes `steps` steps, too many.
 fn too_many_steps(steps: u128) -> AnswerFrame
     ensures bytes { bytes_in result ≡ limit_frame LimitFault.TooManySteps }
     ensures fault { result.fault ≡ Some (AnyFault.Limit LimitFault.TooManySteps) }
@@ -155,7 +181,8 @@ fn too_many_steps(steps: u128) -> AnswerFrame
     }
 }
 
-/// The frame of the tensor that a request of so many steps asks for, or of want of memory.
+/// Evaluates a request of `steps` steps and returns the frame of its tensor, or the frame of
+/// `NoMemory`.
 fn tensor_frame<RT: Threads + Wait + Sync>(
     rt: &RT,
     alloc: Global,
@@ -170,9 +197,32 @@ fn tensor_frame<RT: Threads + Wait + Sync>(
         Err(RunFault::NoMemory) => return no_memory(Some(steps)),
     };
     match front_of(alloc, &tensor) {
-        Ok(front) => AnswerFrame {
+        Ok(front) => value_frame(front, tensor, steps),
+        Err(_) => no_memory(Some(steps)),
+    }
+}
+
+/// Returns the frame of a tensor with this front, or the frame of `NoMemory`. Few values are joined
+/// to the front and so written with it: over a network, a second write would wait until the other
+/// side has acknowledged the first.
+fn value_frame(front: Vec<u8>, tensor: Tensor<'static>, steps: u128) -> AnswerFrame
+    ensures bytes { ((bytes_in result ≡ front.items ++ flat_map value_bytes tensor.entry.values)
+        × (result.fault ≡ None)) ⊎ IsFaultFrame Fault.NoMemory result }
+    ensures steps { result.steps ≡ Some steps }
+{
+    let count = tensor.values().len();
+    if count > VALUES_AT_ONCE {
+        return AnswerFrame {
             front: CowSlice::Owned(front),
             tensor: Some(tensor),
+            fault: None,
+            steps: Some(steps),
+        };
+    }
+    match joined(front, tensor.values()) {
+        Ok(bytes) => AnswerFrame {
+            front: CowSlice::Owned(bytes),
+            tensor: None,
             fault: None,
             steps: Some(steps),
         },
@@ -180,7 +230,20 @@ fn tensor_frame<RT: Threads + Wait + Sync>(
     }
 }
 
-/// The request that a frame means, to whose tensors the frame's values are lent.
+/// Returns the bytes of a front and then of values, at most [`VALUES_AT_ONCE`].
+fn joined(front: Vec<u8>, values: &[i64]) -> Result<Vec<u8>, AllocError>
+    requires { length values.now ≤ 8192 }
+    ensures { IfOk result (λ bytes. bytes.items ≡ front.items ++ flat_map value_bytes values.now) }
+{
+    let mut bytes = front;
+    bytes.reserve(8 * values.len())?;
+    for k in 0..values.len() {
+        bytes.extend_from_slice(&values[k].to_le_bytes())?;
+    }
+    Ok(bytes)
+}
+
+/// Returns the request of a frame. Its tensors borrow the frame's values.
 fn requested(alloc: Global, frame: &WholeFrame) -> Result<Request<'_>, Fault>
     ensures { MatchResult result (λ request.
         request_of_frame frame.now.header.items frame.now.values.items ≡ Ok (asked_under request))
@@ -190,7 +253,7 @@ fn requested(alloc: Global, frame: &WholeFrame) -> Result<Request<'_>, Fault>
     read_frame(alloc, frame.header.as_slice(), frame.values.as_slice())
 }
 
-/// What stands before the values of a tensor.
+/// Returns the bytes of a tensor's frame before its values.
 fn front_of(alloc: Global, tensor: &Tensor) -> Result<Vec<u8>, AllocError>
     ensures { IfOk result (λ front. front.items
         ≡ front_bytes (dims_text tensor.now.dims) (length tensor.now.values)) }
@@ -201,7 +264,7 @@ fn front_of(alloc: Global, tensor: &Tensor) -> Result<Vec<u8>, AllocError>
     front_with(alloc, &header, tensor.values().len())
 }
 
-/// What stands before so many values: the sizes and the header.
+/// Returns the bytes of a frame before its `value_count` values: the two sizes and the header.
 fn front_with(alloc: Global, header: &[u8], value_count: usize) -> Result<Vec<u8>, AllocError>
     ensures { IfOk result (λ front. front.items ≡ front_bytes header.now value_count) }
 {
@@ -211,7 +274,8 @@ fn front_with(alloc: Global, header: &[u8], value_count: usize) -> Result<Vec<u8
     Ok(front)
 }
 
-/// The frame of a fault, or of want of memory. That of a frame that is too long wants none.
+/// Returns the frame of a fault of a request, or the frame of `NoMemory` if an allocation fails.
+/// The frame for a frame that is too long needs no allocation.
 fn refusal(alloc: Global, fault: Fault) -> AnswerFrame
     ensures fault { IsRefusal fault result }
     ensures steps { result.steps ≡ None }
@@ -230,7 +294,8 @@ fn refusal(alloc: Global, fault: Fault) -> AnswerFrame
     }
 }
 
-/// The frame of want of memory, which takes none, for a request of so many steps, if they are known.
+/// Returns the frame of `NoMemory`, for a request of `steps` steps if they are known. It needs no
+/// allocation.
 fn no_memory(steps: Option<u128>) -> AnswerFrame
     ensures bytes { bytes_in result ≡ answer_bytes (fault Fault.NoMemory) }
     ensures fault { result.fault ≡ Some (AnyFault.Request Fault.NoMemory) }
@@ -244,7 +309,7 @@ fn no_memory(steps: Option<u128>) -> AnswerFrame
     }
 }
 
-/// The frame of one that is too long, which takes no memory.
+/// Returns the frame for a frame that is too long. It needs no allocation.
 fn too_long() -> AnswerFrame
     ensures bytes { bytes_in result ≡ answer_bytes (fault Fault.TooLong) }
     ensures fault { result.fault ≡ Some (AnyFault.Request Fault.TooLong) }
@@ -258,7 +323,7 @@ fn too_long() -> AnswerFrame
     }
 }
 
-/// What a fault's frame has, which has no values.
+/// Returns the bytes of the frame of a fault. It has no values.
 fn refusal_front(alloc: Global, fault: Fault) -> Result<Vec<u8>, AllocError>
     ensures { IfOk result (λ front. front.items ≡ front_bytes (fault_text fault) 0) }
 {

@@ -1,35 +1,42 @@
-//! Says what is kept of a frame, and what answers one.
+//! What is kept of a frame while it is read, and the frame that answers it. `taking.rt` makes the
+//! first and `answer.rt` the second; specs/private/Taking.antt and Answering.antt say what they
+//! have.
+
+ghost use Rattle.std.specs.Prelude.{◌<◌, length};
+ghost use Rattle.std.specs.Option.{ForSome};
 
 use expr_reader::{Fault, Tensor};
 use std::alloc::Global;
 use std::borrow::CowSlice;
 use tensor_runner::AnyFault;
 
-/// How long a frame's header is, and how many values it has.
+/// The first 16 bytes of a frame: the length of its header, and the number of its values.
 #[derive(Clone, Copy, Debug, Drop, Eq, PartialEq)]
 pub(crate) struct Head {
+    /// The length of the header in bytes.
     pub(crate) header_len: u64,
+    /// The number of values behind the header, 8 bytes each.
     pub(crate) value_count: u64,
 }
 
 impl Head {
     ghost use Rattle.std.specs.Prelude.{◌≡◌, ◌+◌, ◌*◌};
 
-    /// How many bytes the values have.
+    /// Returns how many bytes the values of the frame have.
     pub(crate) fn values_len(self) -> u128
         ensures { result ≡ 8 * self.value_count }
     {
         8 * u128::from(self.value_count)
     }
 
-    /// How many bytes stand behind the head.
+    /// Returns how many bytes stand behind the head, in the header and the values.
     pub(crate) fn rest_len(self) -> u128
         ensures { result ≡ self.header_len + 8 * self.value_count }
     {
         u128::from(self.header_len) + self.values_len()
     }
 
-    /// How many bytes the frame has.
+    /// Returns how many bytes the whole frame has.
     pub(crate) fn frame_len(self) -> u128
         ensures { result ≡ 16 + (self.header_len + 8 * self.value_count) }
     {
@@ -37,19 +44,21 @@ impl Head {
     }
 }
 
-/// A frame of a request.
+/// A frame of a request that was kept.
 #[derive(Drop)]
 pub(crate) struct WholeFrame {
+    /// The header, which should be a request text without `data`.
     pub(crate) header: Vec<u8>,
+    /// The values of all inputs, one input after the other.
     pub(crate) values: Vec<i64>,
 }
 
-/// A frame that was read, or passed over.
+/// A frame that was read and kept, or skipped.
 #[derive(Drop)]
 pub(crate) enum NextFrame {
-    /// All of it.
+    /// The frame that was kept.
     Whole(WholeFrame),
-    /// Why nothing of it was kept, and how many bytes it has.
+    /// The fault for which the frame was skipped, and the number of its bytes.
     Passed(Fault, u128),
 }
 
@@ -58,7 +67,7 @@ impl NextFrame {
     ghost use Rattle.frame_server.specs.Frame.{IsWhole};
     ghost use Rattle.frame_server.specs.private.Taking.{IsKept};
 
-    /// How many bytes the frame has.
+    /// Returns how many bytes the frame has.
     pub(crate) fn len(&self) -> u128
         ensures { (bytes : List ℕ) → IsWhole bytes → IsKept bytes self.now
             → result ≡ length bytes }
@@ -74,24 +83,26 @@ impl NextFrame {
     }
 }
 
-/// A frame that answers one.
+/// The frame that answers a frame, and what it says.
 #[derive(Drop)]
 pub(crate) struct AnswerFrame {
-    /// Its sizes and its header.
+    /// The bytes before the values of `tensor`: the two sizes and the header, and the values of a
+    /// tensor that has at most 8,192.
     pub(crate) front: CowSlice<'static, u8, Global>,
-    /// The tensor whose values stand behind them. There is none of a fault.
+    /// The tensor whose values follow, or `None` if the front is all.
     pub(crate) tensor: Option<Tensor<'static>>,
-    /// The fault that it says. There is none of a tensor.
+    /// The fault that the frame says, or `None` if the frame has a tensor.
     pub(crate) fault: Option<AnyFault>,
-    /// The steps of the request that it answers, where that is known.
+    /// The steps of the request that the frame answers, if they are known.
     pub(crate) steps: Option<u128>,
+    ghost many: { ForSome tensor (λ t. 8192 < length t.values) },
 }
 
 impl AnswerFrame {
     ghost use Rattle.std.specs.Prelude.{◌≡◌, length};
     ghost use Rattle.frame_server.specs.private.Answering.{bytes_in};
 
-    /// How many bytes the frame has.
+    /// Returns how many bytes the frame has.
     pub(crate) fn len(&self) -> u128
         ensures { result ≡ length (bytes_in self.now) }
     {

@@ -1,15 +1,18 @@
-//! Frames as messages: each is a request, and is answered by a frame.
+//! Frames as messages: each frame is a request, and is answered by a frame. It is the `Protocol`
+//! that `answer_frames` hands to `answer_messages` of message_server; its laws stand in
+//! specs/private/Laws.antt.
 
 ghost use Rattle.std.specs.Thread.{IsSync};
 ghost use Rattle.frame_server.specs.Frame.{IsWhole};
 ghost use Rattle.frame_server.specs.Limited.{whole_frames_within};
-ghost use Rattle.frame_server.specs.private.Answering.{bytes_in};
+ghost use Rattle.frame_server.specs.private.Answering.{bytes_in, most_writes};
 ghost use Rattle.frame_server.specs.private.Laws.{laws};
 ghost use Rattle.frame_server.specs.private.Parting.{by_sizes};
 ghost use Rattle.frame_server.specs.private.Taking.{IsKept};
 
 use crate::answer::{answer, entry_of};
 use crate::frame::{AnswerFrame, NextFrame};
+use crate::room::Room;
 use crate::taking::next_frame;
 use crate::writing::{OutputBuffer, write_frame};
 use message_server::{Client, InputBuffer, Next, Protocol, StreamFault};
@@ -18,15 +21,16 @@ use std::sync::Wait;
 use std::thread::Threads;
 use tensor_runner::{Entry, Journal, Limits, Service};
 
-/// Frames that are answered as a service does.
+/// The protocol of frames, answered as a service says.
 #[derive(Drop)]
 pub(crate) struct FrameProtocol<J: Journal + Drop> {
     pub(crate) alloc: Global,
     pub(crate) service: Service<J>,
+    /// The buffer for the values of answers, used again for each answer.
     pub(crate) room: OutputBuffer,
 }
 
-/// A frame that answers, and what is noted of it once it is written.
+/// The frame that answers a request, and the note that the journal gets once the frame is written.
 #[derive(Drop)]
 pub(crate) struct NotedFrame {
     frame: AnswerFrame,
@@ -50,6 +54,8 @@ impl<RT: Threads + Wait + Sync, J: Journal + Drop> Protocol<RT> for FrameProtoco
 
     ghost told = { λ answer. bytes_in answer.frame };
 
+    ghost most_writes = { λ answer. most_writes answer.frame };
+
     ghost can_answer = { IsSync RT.row };
 
     ghost laws = { laws };
@@ -60,7 +66,11 @@ impl<RT: Threads + Wait + Sync, J: Journal + Drop> Protocol<RT> for FrameProtoco
         client: &mut C,
         buffer: &mut InputBuffer,
     ) -> Result<Next<NextFrame>, StreamFault> {
-        match next_frame(self.alloc, client, buffer)? {
+        let room = Room {
+            alloc: self.alloc,
+            limits: self.service.limits,
+        };
+        match next_frame(room, client, buffer)? {
             Some(frame) => Ok(Next::Message(frame)),
             None => Ok(Next::End),
         }
@@ -75,7 +85,7 @@ impl<RT: Threads + Wait + Sync, J: Journal + Drop> Protocol<RT> for FrameProtoco
     }
 
     fn write<C: Client>(&mut self, client: &mut C, answer: NotedFrame) -> Result<(), StreamFault> {
-        write_frame(self.alloc, client, &mut self.room, &answer.frame)?;
+        write_frame(client, &mut self.room, &answer.frame)?;
         self.service.journal.end(&answer.entry);
         Ok(())
     }

@@ -1,5 +1,6 @@
-//! Many requests by one process: a frame each, with the header of a request and its tensors' values
-//! as numbers, and a frame for each answer.
+//! A server of frames: each request is a frame, with its tensors' values as 8-byte numbers behind a
+//! JSON header, and so is each answer. docs/FRAMES.md defines the bytes, and README.md has the
+//! picture.
 #![tactic(auto)]
 
 mod answer;
@@ -13,6 +14,6 @@ mod server;
 mod taking;
 mod writing;
 
-pub use ending::{serve_frames, serve_frames_logged, serve_frames_within};
-pub use laws::{bytes_part_in_one_way, frames_are_read_as_written};
-pub use server::{answer_frames, answer_frames_logged, answer_frames_within};
+pub use ending::serve_frames;
+pub use laws::{bytes_part_in_one_way, frames_are_read_as_written, no_limits_change_no_frame};
+pub use server::answer_frames;

@@ -1,4 +1,5 @@
-//! Deals out what was read of a client.
+//! Takes heads, bytes and values out of the input buffer of a client. `taking.rt` uses it;
+//! specs/Frame.antt defines how sizes and values stand in bytes.
 
 ghost use Rattle.std.specs.Prelude.{◌≡◌, ◌+◌, ◌/◌, ◌<◌, ◌≤◌, ◌++◌, length, take, drop, vec_capacity};
 ghost use Rattle.frame_server.specs.private.Taking.{values_of, IsHeadOf, MovesBytes, MovesValues};
@@ -7,13 +8,13 @@ ghost use Rattle.message_server.specs.Pieces.{pending_bytes};
 use crate::frame::Head;
 use message_server::InputBuffer;
 
-/// How many bytes say how long a frame is.
+/// The number of bytes of a head, the two sizes at the beginning of a frame.
 pub(crate) const HEAD: usize = 16;
 
-/// How many bytes a value has.
+/// The number of bytes of a value.
 pub(crate) const VALUE: usize = 8;
 
-/// Takes the bytes that say how long a frame is.
+/// Takes the head of a frame out of the buffer.
 pub(crate) fn head_of(buffer: &mut InputBuffer) -> Head
     requires { 16 ≤ length (pending_bytes buffer.old) }
     ensures head { IsHeadOf (take 16 (pending_bytes buffer.old)) result }
@@ -24,7 +25,7 @@ pub(crate) fn head_of(buffer: &mut InputBuffer) -> Head
     head
 }
 
-/// Moves bytes behind those of a header, up to so many, for which there is room.
+/// Moves up to `most` pending bytes to the end of `header`, which has capacity for them.
 pub(crate) fn move_bytes(buffer: &mut InputBuffer, header: &mut Vec<u8>, most: usize)
     requires some { 0 < length (pending_bytes buffer.old) }
     requires any { 0 < most }
@@ -41,7 +42,8 @@ pub(crate) fn move_bytes(buffer: &mut InputBuffer, header: &mut Vec<u8>, most: u
     buffer.skip(count);
 }
 
-/// Moves values behind others, up to so many, for which there is room.
+/// Moves up to `most` pending values to the end of `values`, which has capacity for them. A value
+/// of which not all 8 bytes are pending stays.
 pub(crate) fn move_values(buffer: &mut InputBuffer, values: &mut Vec<i64>, most: usize)
     requires some { 8 ≤ length (pending_bytes buffer.old) }
     requires any { 0 < most }
@@ -56,7 +58,7 @@ pub(crate) fn move_values(buffer: &mut InputBuffer, values: &mut Vec<i64>, most:
     buffer.skip(VALUE * count);
 }
 
-/// What the bytes that begin a frame say of it.
+/// Reads a head from its 16 bytes.
 fn head_in(bytes: &[u8]) -> Head
     requires { length bytes.now ≡ 16 }
     ensures { IsHeadOf bytes.now result }
@@ -68,7 +70,7 @@ fn head_in(bytes: &[u8]) -> Head
     }
 }
 
-/// Pushes the values that these bytes are, for which there is room.
+/// Appends the values that stand in `bytes` to `values`, which has capacity for them.
 fn push_values(values: &mut Vec<i64>, bytes: &[u8])
     requires { length values.old.items + length bytes.now / 8 ≤ vec_capacity values.old }
     ensures values { values.new.items

@@ -1,4 +1,5 @@
-//! Takes a client's bytes, frame by frame.
+//! Takes the frames of a client out of its input buffer. A change here touches `FrameProtocol` and
+//! specs/private/Taking.antt.
 
 ghost use Rattle.std.specs.Prelude.{◌≡◌, ◌+◌, ◌*◌, ◌≤◌, [], length, IfOk, IfSome, IfErr, OnOk, OnErr};
 ghost use Rattle.std.specs.Prelude.{MatchOption, vec_capacity};
@@ -10,18 +11,17 @@ ghost use Rattle.frame_server.specs.private.Taking.{TakesValues, TakesRest, Take
 
 use crate::frame::{Head, NextFrame, WholeFrame};
 use crate::reading::{HEAD, VALUE, head_of, move_bytes, move_values};
-use crate::room::{header_room, values_room};
+use crate::room::{Room, header_room, values_room};
 use message_server::{Client, InputBuffer, StreamFault};
-use std::alloc::Global;
 
-/// Takes the next frame, or tells that there is none where the client's bytes end. One that is too
-/// long, or that there is no memory for, is passed over.
+/// Takes the next frame, or returns `None` at the end of the client's bytes. A frame that is too
+/// long, also by a limit, or for which an allocation fails, is skipped.
 ///
 /// # Errors
 ///
-/// [`StreamFault::ReadFault`] at any error of a read, and where the client's bytes end in a frame.
+/// [`StreamFault::ReadFault`] if a read fails, or if the client's bytes end inside a frame.
 pub(crate) fn next_frame<C: Client>(
-    alloc: Global,
+    room: Room,
     client: &mut C,
     buffer: &mut InputBuffer,
 ) -> Result<Option<NextFrame>, StreamFault>
@@ -42,11 +42,11 @@ pub(crate) fn next_frame<C: Client>(
     let Some(head) = take_head(client, buffer)? else {
         return Ok(None);
     };
-    let next = take_rest(alloc, client, buffer, head)?;
+    let next = take_rest(room, client, buffer, head)?;
     Ok(Some(next))
 }
 
-/// Takes the bytes that say how long the next frame is.
+/// Takes the head of the next frame, or returns `None` at the end of the client's bytes.
 fn take_head<C: Client>(
     client: &mut C,
     buffer: &mut InputBuffer,
@@ -74,10 +74,10 @@ fn take_head<C: Client>(
     Err(StreamFault::ReadFault)
 }
 
-/// Takes what stands behind a frame's head, or passes over it. Its header is kept before there is room
-/// for its values, since it says how many there may be.
+/// Takes or skips the header and the values behind a frame's head. The header is read before memory
+/// for the values is allocated, since its version says how many values there may be.
 fn take_rest<C: Client>(
-    alloc: Global,
+    room: Room,
     client: &mut C,
     buffer: &mut InputBuffer,
     head: Head,
@@ -97,7 +97,7 @@ fn take_rest<C: Client>(
     ensures read_failures { OnOk result (C.read_failures client.new ≡ C.read_failures client.old) }
     ensures write_failures { C.write_failures client.new ≡ C.write_failures client.old }
 {
-    let mut header = match header_room(alloc, head) {
+    let mut header = match header_room(room, head) {
         Ok(header) => header,
         Err(fault) => {
             pass_over(client, buffer, head.rest_len())?;
@@ -105,7 +105,7 @@ fn take_rest<C: Client>(
         }
     };
     take_header(client, buffer, &mut header, head.header_len as usize)?;
-    let mut values = match values_room(alloc, &header, head.value_count) {
+    let mut values = match values_room(room.alloc, &header, head.value_count) {
         Ok(values) => values,
         Err(fault) => {
             pass_over(client, buffer, head.values_len())?;
@@ -116,7 +116,7 @@ fn take_rest<C: Client>(
     Ok(NextFrame::Whole(WholeFrame { header, values }))
 }
 
-/// Takes so many bytes of a header, which has room for them.
+/// Takes a header of `count` bytes. `header` has capacity for them.
 fn take_header<C: Client>(
     client: &mut C,
     buffer: &mut InputBuffer,
@@ -150,7 +150,7 @@ fn take_header<C: Client>(
     Ok(())
 }
 
-/// Takes so many values, for which there is room.
+/// Takes `count` values. `values` has capacity for them.
 fn take_values<C: Client>(
     client: &mut C,
     buffer: &mut InputBuffer,
@@ -184,7 +184,7 @@ fn take_values<C: Client>(
     Ok(())
 }
 
-/// Passes over so many bytes.
+/// Skips `count` bytes.
 fn pass_over<C: Client>(
     client: &mut C,
     buffer: &mut InputBuffer,

@@ -1,4 +1,4 @@
--- What was read of a list, from a place on.
+-- The bytes that a read takes from a list, from a place on.
 use Rattle.std.proofs.Common.{◌≡◌, ◌≤◌, ◌+◌, ℕ, List, [], ◌++◌, length, take, drop, min, ap, sym, ◌∙◌, arith}
 use Rattle.std.proofs.Math.Seq.{take-add}
 use Rattle.std.proofs.lemmas.List.{take-append-drop, drop-drop, take_at, length-take, length-drop, drop_all}

@@ -1,13 +1,14 @@
-//! A client of which all is known.
+//! A client in memory whose streams and history are known, an impl of `Client` of message_server.
 
 ghost use Rattle.std.specs.Prelude.{◌≡◌, ◌≤◌, Some, length, take, drop};
 ghost use Rattle.tensor_runner.specs.History.{History};
 
 use std::io;
+use std::io::ErrorKind;
 use std::marker::PhantomData;
 use tensor_runner::Client;
 
-/// What a client takes for a request: by a history of bytes, whether it is owed an answer.
+/// What a client takes for a request: it says for which histories the client is owed no answer.
 pub trait Asking {
     ghost use Rattle.tensor_runner.specs.History.{History};
 
@@ -17,15 +18,17 @@ pub trait Asking {
 /// A client whose requests are given, and whose answers are kept.
 #[derive(Drop)]
 pub struct Recorded<K: Asking> {
-    /// All that it asks.
+    /// All bytes that the client sends.
     pub asked: Vec<u8>,
-    /// How many bytes of it were read.
+    /// How many bytes of `asked` were read.
     pub taken: usize,
-    /// What it was told.
+    /// All bytes that were written to the client.
     pub answers: Vec<u8>,
-    /// How often a write took nothing or found no memory.
+    /// How many writes had no byte or found no memory. The count stops at the greatest `u64`.
     pub write_failures: u64,
-    /// What it takes for a request.
+    /// How many writes took all that they were given.
+    pub writes: u64,
+    /// The rule that says what the client takes for a request.
     pub asking: PhantomData<K>,
     ghost in_range: { taken ≤ length asked.items },
 }
@@ -46,6 +49,8 @@ impl<K: Asking> Client for Recorded<K> {
 
     ghost write_failures = { λ r. r.write_failures };
 
+    ghost writes = { λ r. Some r.writes };
+
     fn read(&mut self, buffer: &mut [u8]) -> io::Result<usize> {
         let count = buffer.len().min(self.asked.len() - self.taken);
         buffer[..count].copy_from_slice(&self.asked[self.taken..self.taken + count]);
@@ -54,8 +59,13 @@ impl<K: Asking> Client for Recorded<K> {
     }
 
     fn write(&mut self, bytes: &[u8]) -> io::Result<usize> {
+        if self.writes == u64::MAX {
+            self.write_failures = self.write_failures.saturating_add(1);
+            return Err(ErrorKind::QuotaExceeded.into());
+        }
         match self.answers.extend_from_slice(bytes) {
             Ok(()) => {
+                self.writes += 1;
                 if bytes.is_empty() {
                     self.write_failures = self.write_failures.saturating_add(1);
                 }

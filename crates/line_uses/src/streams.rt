@@ -1,4 +1,4 @@
-//! Tries frames over streams in memory, which end at each place.
+//! Tests the server of frames over streams in memory that end at each byte.
 
 use crate::frames_answering;
 use frame_server::serve_frames;
@@ -7,7 +7,7 @@ use std::process::Abort;
 use std::sync::Wait;
 use std::test::Fail;
 use std::thread::Threads;
-use tensor_runner::{Connection, CountedReader, CountedWriter, Ending, StreamFault};
+use tensor_runner::{Connection, CountedReader, CountedWriter, Ending, Service, StreamFault};
 
 /// A frame of 109 bytes that asks for a tensor, and then one that is no request.
 const TWO: &[u8] = b"\x55\0\0\0\0\0\0\0\x01\0\0\0\0\0\0\0\
@@ -17,7 +17,7 @@ const TWO: &[u8] = b"\x55\0\0\0\0\0\0\0\x01\0\0\0\0\0\0\0\
 
 const FIRST: usize = 109;
 
-/// Their answers, of which the first has 36 bytes.
+/// The answers to the frames of [`TWO`]. The first answer has 36 bytes.
 const ANSWERS: &[u8] = b"\x0c\0\0\0\0\0\0\0\x01\0\0\0\0\0\0\0{\"dims\":[1]}\x19\0\0\0\0\0\0\0\
     \x10\0\0\0\0\0\0\0\0\0\0\0\0\0\0\0error 3 BadField";
 
@@ -28,7 +28,7 @@ const DONE: Ending = Ending {
     complaint: None,
 };
 
-/// Asserts what the program ends with over these bytes, and that it wrote so much of the answers.
+/// Asserts what the program ends with over these bytes, and which answers it wrote.
 fn expect_served<RT: Threads + Wait + Abort + Sync>(
     rt: &RT,
     alloc: Global,
@@ -39,7 +39,7 @@ fn expect_served<RT: Threads + Wait + Abort + Sync>(
         source: CountedReader::new(frames),
         sink: CountedWriter::new(Vec::new(alloc)),
     };
-    let found = serve_frames(rt, alloc, &mut client);
+    let found = serve_frames(rt, alloc, Service::plain(), &mut client);
     assert_eq!(rt; found, ending, "{}", frames.len());
     assert_eq!(rt; client.sink.writer.as_slice(), told, "{}", frames.len());
 }

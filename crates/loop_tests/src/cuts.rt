@@ -1,4 +1,4 @@
-//! How a range is cut into blocks and leaves.
+//! Tests of how a range is cut into blocks.
 
 use parallel_for::{blocks, halve, leaves};
 use std::test::Fail;

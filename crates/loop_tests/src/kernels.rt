@@ -1,4 +1,4 @@
-//! Kernels for tests.
+//! Kernels for the tests of `ranges.rt`.
 use parallel_for::Kernel;
 use std::alloc::{AllocError, Allocator};
 use std::sync::atomic::{AtomicU64, Ordering};
@@ -7,7 +7,7 @@ use std::thread::yield_now;
 /// How often a leaf looks at most whether all others have begun.
 const LOOKS: u64 = 10_000_000;
 
-/// Has its number at each place.
+/// A kernel whose item at each place is the place itself.
 #[derive(Drop)]
 pub(crate) struct Places;
 
@@ -34,7 +34,8 @@ impl Kernel for Places {
     }
 }
 
-/// The same, but the leaves wait for one another, each so long, until all have begun.
+/// A kernel whose item at each place is the place itself. Each of its leaves waits until all leaves
+/// have begun, for at most `LOOKS` looks.
 #[derive(Drop)]
 pub(crate) struct Meeting {
     leaves: u64,
@@ -51,7 +52,7 @@ impl Meeting {
         }
     }
 
-    /// How many leaves have begun, and how many of them have seen all begun.
+    /// Returns how many leaves have begun, and how many of them have seen that all have begun.
     pub(crate) fn counts(&self) -> (u64, u64) {
         (
             self.begun.load(Ordering::SeqCst),
@@ -59,7 +60,7 @@ impl Meeting {
         )
     }
 
-    /// A leaf begins, and looks for the others.
+    /// Counts that a leaf has begun, and waits for the others.
     fn meet(&self) {
         self.begun.fetch_add(1, Ordering::SeqCst);
         for _ in 0..LOOKS {

@@ -1,4 +1,4 @@
-//! Tests of loops: ranges that are cut into blocks, and of their evaluation on workers.
+//! Tests of `parallel_for`: of ranges that are cut into blocks, and of their evaluation on workers.
 #![tactic(auto)]
 
 #[cfg(test)]

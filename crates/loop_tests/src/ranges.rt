@@ -1,4 +1,4 @@
-//! Ranges on workers.
+//! Tests of ranges that are evaluated on workers.
 ghost use Rattle.std.specs.Prelude.{◌≤◌};
 
 use crate::kernels::{Meeting, Places};
@@ -11,7 +11,7 @@ use std::thread::Threads;
 use steal_walk::Partition;
 use worker_pool::{PoolFault, Setup};
 
-/// So many workers, with the partitions of these rows.
+/// Returns a setup of the given number of workers, with the partitions of these rows.
 fn setup_of(alloc: Global, workers: u32, ranges: &[(u32, u32)]) -> Result<Setup, AllocError> {
     let mut partitions = Vec::new(alloc);
     for &(start, limit) in ranges {
@@ -25,7 +25,7 @@ fn setup_of(alloc: Global, workers: u32, ranges: &[(u32, u32)]) -> Result<Setup,
     })
 }
 
-/// The first number that isn't its place.
+/// Returns the first number that is not its place.
 fn first_wrong(numbers: &[u64]) -> Option<u64> {
     let mut place = 0u64;
     for number in numbers {
@@ -37,8 +37,8 @@ fn first_wrong(numbers: &[u64]) -> Option<u64> {
     None
 }
 
-/// So many workers with the partitions of these rows give the numbers of so many places in order,
-/// by blocks, or this fault.
+/// Checks that workers with the partitions of these rows return all places in order, by blocks, or
+/// that the call returns this fault.
 fn expect_places<RT: Threads + Wait + Abort + Sync>(
     rt: &RT,
     alloc: Global,
@@ -61,7 +61,7 @@ fn expect_places<RT: Threads + Wait + Abort + Sync>(
     Ok(())
 }
 
-/// Asserts that a kernel has these items from a place on, and so has one that is lent.
+/// Checks that a kernel, and a reference to it, have these items from a place on.
 fn expect_items<R: Abort>(
     rt: &R,
     alloc: Global,
@@ -77,7 +77,7 @@ fn expect_items<R: Abort>(
     Ok(())
 }
 
-/// The items of a range, by the kernel alone.
+/// Returns the items of a range, computed by the kernel alone.
 fn filled<K: Kernel>(
     kernel: &K,
     alloc: Global,
@@ -104,7 +104,7 @@ const BAD_WORKERS: Option<ForFault> = Some(ForFault::Pool(PoolFault::BadWorkers)
 
 const BAD_PARTITION: Option<ForFault> = Some(ForFault::Pool(PoolFault::BadPartition));
 
-/// Numbers of workers, the rows of their partitions, places, blocks, and the fault.
+/// Numbers of workers, the rows of their partitions, places, lengths of a block, and the fault.
 const FAULTS: &[(u32, &[(u32, u32)], u64, u64, Option<ForFault>)] = &[
     (1, &[], 8, 0, BAD_BLOCK),
     (0, &[], 8, 0, BAD_BLOCK),
@@ -120,7 +120,7 @@ const FAULTS: &[(u32, &[(u32, u32)], u64, u64, Option<ForFault>)] = &[
     (1, &[], 0, 4, None),
     (256, &[], 0, 1, None),
     (1, &[], 8, 8, None),
-    // Each worker looks first in the row of its own, and then in all.
+    // Each worker looks first in its own row, and then in all rows.
     (4, &[(0, 1), (1, 2), (2, 3), (3, 4)], 10_000, 1, None),
 ];
 
@@ -133,7 +133,7 @@ fn faults_by_number(rt: HostRuntime) -> Result<(), Fail> {
     Ok(())
 }
 
-/// Places and blocks.
+/// Numbers of places, and lengths of a block.
 const PLACES: &[(u64, u64)] = &[
     (0, 4),
     (1, 1),
@@ -155,12 +155,13 @@ fn all_places_on_any_number_of_workers(rt: HostRuntime) -> Result<(), Fail> {
     Ok(())
 }
 
-/// So many leaves and as many workers, and how often they meet.
+/// Numbers of leaves, which are also the numbers of workers, and how often the leaves meet.
 const MEETINGS: &[(u32, u32)] = &[(2, 1_000), (16, 100)];
 
-/// All leaves run at one time, and each once. So no worker ended before the last leaf was taken, as
-/// one does that finds nothing to do in a pool that is closing: where the caller doesn't wait for the
-/// leaves some do, at one meeting in twenty or so, and so at some of these.
+/// All leaves run at the same time, and each runs once. So no worker ends before the last leaf is
+/// taken. A worker ends if it finds no job in a pool that is closing. If the caller did not wait
+/// for the leaves, some worker would end too early at about one meeting in twenty, and so at some
+/// of these.
 #[test]
 fn all_leaves_meet(rt: HostRuntime) -> Result<(), Fail> {
     for &(workers, times) in MEETINGS {

@@ -1,4 +1,5 @@
-//! Calls that take memory, made with an allocator that refuses.
+//! Calls that allocate, made with an allocator that refuses. `each_call.rt` has how many
+//! allocations each makes; a new call needs a variant of `Call` and an arm of `make`.
 
 use crate::refusing::Sparing;
 use event_count::{
@@ -15,7 +16,7 @@ use waking_rows::{RowPoint, WakingRows, on_one_count};
 
 type Heap = Sparing<Global>;
 
-/// A call that takes memory.
+/// A call that allocates.
 #[derive(Clone, Copy, Debug)]
 pub(crate) enum Call {
     Barrier,
@@ -36,13 +37,14 @@ pub(crate) enum Call {
     Leaves,
 }
 
-/// What a call answers.
+/// The result of a call.
 #[derive(Clone, Copy, Debug, Eq, PartialEq)]
 pub(crate) enum Answer {
+    /// The fault `NoMemory`.
     NoMemory,
-    /// As it is to answer where it has memory.
+    /// The expected result of a call that has memory.
     Right,
-    /// Otherwise.
+    /// Any other result.
     Wrong,
 }
 
@@ -55,7 +57,8 @@ impl Answer {
         }
     }
 
-    /// Two waiters and a notifier have three seats, and are closed at this word.
+    /// Checks a count of two waiters and one notifier: it has three seats, and is closed at this
+    /// word.
     fn of_count(counted: Result<(usize, u64), CountFault>) -> Answer {
         match counted {
             Ok(seats_and_word) => Answer::right_where(seats_and_word == (3, 0x3FFF)),
@@ -64,7 +67,8 @@ impl Answer {
         }
     }
 
-    /// The same, of a count with rows.
+    /// Checks a count with rows, two waiters and one notifier: it has three seats, and is closed at
+    /// this word.
     fn of_row_count(counted: Result<(usize, u64), RowFault>) -> Answer {
         match counted {
             Ok(seats_and_word) => Answer::right_where(seats_and_word == (3, 0x3FFF)),
@@ -111,7 +115,7 @@ pub(crate) fn make<R: Wait>(rt: &R, call: Call, heap: &Heap) -> Answer {
     }
 }
 
-/// The share that is handed out has all notices.
+/// Opens a barrier, whose first share must have all notices.
 fn barrier(heap: &Heap) -> Answer {
     match Barrier::new(heap, 2) {
         Ok((_barrier, _waiter, share)) => Answer::right_where(share.notices() == 2),
@@ -120,31 +124,32 @@ fn barrier(heap: &Heap) -> Answer {
     }
 }
 
-/// The share that is handed out has one notice.
+/// Opens a notification, whose share must have one notice.
 fn notification(heap: &Heap) -> Result<bool, AllocError> {
     let (_notification, _waiter, share) = Notification::new(heap)?;
     Ok(share.notices() == 1)
 }
 
-/// How many seats a new count has, and the word that it is closed at.
+/// Returns how many seats a new event count has, and the word at which it is closed.
 fn count(heap: &Heap) -> Result<(usize, u64), CountFault> {
     let (count, seats) = EventCount::new(heap, 2, 1)?;
     Ok((seats.len(), count.close(seats)))
 }
 
-/// The same, of a count whose seats have their last epoch.
+/// Returns how many seats a new event count at its last epoch has, and the word at which it is
+/// closed.
 fn count_at_the_last(heap: &Heap) -> Result<(usize, u64), CountFault> {
     let (count, seats) = EventCount::new_at(heap, 2, 1, 4_194_303)?;
     Ok((seats.len(), count.close(seats)))
 }
 
-/// The same, of what a pool waits at.
+/// Returns how many seats a new wait point has, and the word at which it is closed.
 fn point<'h, P: WaitPoint<&'h Heap>>(heap: &'h Heap) -> Result<(usize, u64), CountFault> {
     let (point, seats) = P::open(heap, 2, 1)?;
     Ok((seats.len(), point.shut(seats)))
 }
 
-/// The same, of a count with three rows.
+/// Returns how many seats a new count with three rows has, and the word at which it is closed.
 fn row_count(heap: &Heap) -> Result<(usize, u64), RowFault> {
     let sizes = RowSizes {
         waiters: 2,
@@ -157,7 +162,7 @@ fn row_count(heap: &Heap) -> Result<(usize, u64), RowFault> {
     Ok((seats.len(), count.close(seats)))
 }
 
-/// A World with a row plays six events, which leave one signal.
+/// Opens a World with a row, and plays six events, which must leave one signal.
 fn world(heap: &Heap) -> Result<bool, AllocError> {
     let mut world = World::new(heap, 2, 1, 1)?;
     let events = [
@@ -172,7 +177,7 @@ fn world(heap: &Heap) -> Result<bool, AllocError> {
     Ok((taken, world.signals()) == (6, 1))
 }
 
-/// A row takes 1,024 jobs, with no more memory.
+/// Opens a row, which must take 1,024 jobs without another allocation.
 fn row(heap: &Heap) -> Result<bool, AllocError> {
     let mut row = Deque::new(heap)?;
     for job in 0..1030u64 {
@@ -181,7 +186,8 @@ fn row(heap: &Heap) -> Result<bool, AllocError> {
     Ok(row.len() == 1024)
 }
 
-/// Two rows have three seats, and give back the job that is put in, with no more memory.
+/// Opens two rows, which must have three seats. The job that is put in comes out at the end without
+/// another allocation.
 fn two_rows<'h, R: Wait, Q: Rows<u64, &'h Heap>>(
     rt: &R,
     heap: &'h Heap,
@@ -193,8 +199,8 @@ fn two_rows<'h, R: Wait, Q: Rows<u64, &'h Heap>>(
     Ok(count == 3 && put.is_ok() && left.as_slice() == [7].as_slice())
 }
 
-/// Rows for two workers and their point have three seats each. Who waits gives up where there is a
-/// job, which is taken back at the end, all with no more memory.
+/// Opens rows for two workers and their wait point, which must have three seats each. A waiter does
+/// not sleep while there is a job. The job is taken at the end. All this needs no other allocation.
 fn one_count<R: Wait>(rt: &R, heap: &Heap) -> Result<bool, AllocError> {
     let made = on_one_count::<u64, &Heap>(&heap, 2)?;
     let (rows, mut row_seats) = (made.rows, made.row_seats);

@@ -1,41 +1,42 @@
-//! Each call by itself: how many allocations it takes.
+//! Tests of each call by itself: how many allocations it makes. The numbers change with what a call
+//! allocates.
 
 use crate::calls::{Answer, Call, make};
 use crate::refusing::Sparing;
 
-/// Calls, and how many allocations each takes.
+/// Calls, and how many allocations each makes.
 const CALLS: &[(Call, u64)] = &[
     // A table takes two blocks.
     (Call::Barrier, 2),
     (Call::Notification, 2),
-    // The words take one block, the seats another, and a table two.
+    // The words take one block, the seats take another, and a table takes two.
     (Call::EventCount, 4),
     (Call::EventCountAtTheLastEpoch, 4),
     (Call::EventCountAsPoint, 4),
     (Call::RowCount, 4),
-    // A count, the list of its waiters and the block that is shared.
+    // A count, the list of its waiters, and the block that is shared.
     (Call::RowPoint, 6),
-    // The World takes eight blocks, and the seats one.
+    // The World takes eight blocks, and the seats take one.
     (Call::LockedCount, 9),
-    // Nine lists, one allocation each, and for each of the two workers a list of the rows that it
-    // has passed. The events take none.
+    // Nine lists take one allocation each, and each of the two workers takes a list of the rows
+    // that it has passed. The events take none.
     (Call::World, 11),
     (Call::Row, 1),
-    // The room of all jobs, the list of rows, each of the two rows, and the seats.
+    // The memory for all jobs, the list of rows, each of the two rows, and the seats.
     (Call::LockedRows, 5),
-    // The backs; the room of what is left, the list that hands it over and the two blocks of its
-    // table; the words, the seats, the slots, and the two blocks of the table.
+    // The backs; the memory for the jobs that are left, the list that hands it over, and the two
+    // blocks of its table; the words, the seats, the slots, and the two blocks of the table.
     (Call::SlotRows, 10),
-    // A count and the block that is shared; rows of slots; the rooms of the jobs that are left and
-    // of the seats, four each; the seats.
+    // A count and the block that is shared; rows of slots; the memory for the jobs that are left
+    // and for the seats, four allocations each; the seats.
     (Call::WakingRows, 24),
-    // The waiters' list and the other seats' too.
+    // As `WakingRows`, with the list of the waiters and the list of the other seats.
     (Call::OnOneCount, 26),
     (Call::Coprimes, 1),
     (Call::Leaves, 1),
 ];
 
-/// More than any of them takes.
+/// A number of allocations that is more than any of the calls makes.
 const AMPLE: u64 = 28;
 
 #[test]

@@ -1,8 +1,8 @@
-//! A kernel for tests.
+//! A kernel for tests, whose item at each place is half the place.
 use parallel_for::Kernel;
 use std::alloc::{AllocError, Allocator};
 
-/// Has half its number at each place.
+/// A kernel whose item at each place is half the place, rounded down.
 #[derive(Drop)]
 pub(crate) struct Halves;
 

@@ -1,11 +1,11 @@
-//! Rows that hand out no job before their end.
+//! Rows that hand out no job before their end, so that the closing pool finds all of them.
 ghost use Rattle.std.specs.Prelude.{◌≡◌};
 
 use run_queue::{Rows, RowsFault};
 use std::alloc::Allocator;
 use std::sync::Wait;
 
-/// Rows in which nobody finds a job.
+/// Rows in which no worker finds a job. The jobs come out when the rows are drained.
 #[derive(Drop)]
 pub(crate) struct KeptRows<Q> {
     rows: Q,

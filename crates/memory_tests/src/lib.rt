@@ -1,9 +1,9 @@
-//! Tests that refuse each allocation of a call in turn.
+//! Tests that refuse each allocation of a call in turn. README.md says where a new call belongs.
 //!
-//! Where one is refused the call answers want of memory, and where it gets those that it takes, no
-//! more, it answers as it does with ample memory.
+//! If an allocation is refused, the call reports that it ran out of memory. If the call gets as
+//! many allocations as it makes, and no more, its result is the same as with ample memory.
 //!
-//! A pool answers so only while it is opened. Later it counts the jobs that found no memory.
+//! A pool reports this only while it is opened. Later it counts the jobs that ran out of memory.
 #![tactic(auto)]
 
 #[cfg(test)]

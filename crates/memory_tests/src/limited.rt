@@ -1,4 +1,5 @@
-//! Pools that may be cancelled, and of which few workers may be started.
+//! Pools that may be cancelled, and of which only some workers may be started. `tasks.rt` runs
+//! them.
 ghost use Rattle.worker_pool.specs.Callers.{IsCaller, StaysCaller};
 
 use crate::kept_rows::KeptRows;
@@ -15,7 +16,7 @@ use worker_pool::{
 #[derive(Clone, Copy, Debug)]
 pub(crate) enum Taken {
     AnyTime,
-    /// As the pool is closed.
+    /// Only when the pool is closed.
     AtTheEnd,
 }
 
@@ -23,15 +24,16 @@ pub(crate) enum Taken {
 #[derive(Clone, Copy, Debug)]
 pub(crate) struct Limited {
     pub(crate) workers: u32,
-    /// Below which number workers are started.
+    /// The number below which workers are started.
     pub(crate) starts: u32,
-    /// How many jobs are scheduled before the pool is cancelled, which it is where there are more.
+    /// How many jobs are scheduled before the pool is cancelled. It is cancelled only if there are
+    /// more jobs.
     pub(crate) first: u64,
     pub(crate) taken: Taken,
 }
 
-/// What a pool over slots leaves of the first jobs, and of those that are scheduled once it is
-/// cancelled.
+/// Runs a pool over slots on the first jobs and on jobs that are scheduled once it is cancelled,
+/// and returns what it leaves.
 pub(crate) fn run_jobs<RT, J, A>(
     rt: &RT,
     alloc: A,
@@ -74,6 +76,7 @@ where
     }
 }
 
+/// Runs a pool over the given wait point and rows on these jobs, and returns what it leaves.
 fn run_over<W, R, L, RT, J, A>(
     rt: &RT,
     alloc: A,
@@ -116,6 +119,7 @@ where
     )
 }
 
+/// Schedules the jobs.
 fn schedule_all<RT, J, A, W, R, L>(rt: &RT, caller: &mut Caller<'_, J, A, W, R, L>, jobs: Vec<J>)
 where
     RT: Wait,

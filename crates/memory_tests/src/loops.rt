@@ -1,4 +1,4 @@
-//! Ranges that are evaluated on workers.
+//! Tests of ranges that are evaluated on workers, with an allocator that refuses.
 use crate::halves::Halves;
 use crate::refusing::Sparing;
 use parallel_for::{ForFault, Setup, parallel_for};
@@ -8,18 +8,18 @@ use std::sync::Wait;
 use std::test::Fail;
 use std::thread::Threads;
 
-/// How many allocations a range is tried with at most.
+/// A range is tried with each number of allocations below this one.
 const MOST: u64 = 64;
 
 const PLACES: u64 = 22;
 
-/// So that there are six blocks.
+/// The length of a block if there are to be six blocks.
 const BLOCK: u64 = 4;
 
-/// So that there are two.
+/// The length of a block if there are to be two blocks.
 const HALF: u64 = 11;
 
-/// Half the number of each place, worked out by so many workers.
+/// Returns half of each place, computed by the given number of workers.
 fn halves<RT, A>(rt: &RT, alloc: A, workers: u32, block: u64) -> Result<Vec<u64, A>, ForFault>
 where
     RT: Threads + Wait + Sync,
@@ -32,7 +32,7 @@ where
     parallel_for(rt, alloc, &setup, &Halves, PLACES, block)
 }
 
-/// The items are those of the kernel.
+/// Checks that the items are the kernel's.
 fn expect_halves<R: Abort>(rt: &R, workers: u32, items: &[u64]) {
     assert_eq!(rt; items.len() as u64, PLACES, "{workers} workers");
     for (place, item) in (0..PLACES).zip(items.iter()) {
@@ -40,8 +40,9 @@ fn expect_halves<R: Abort>(rt: &R, workers: u32, items: &[u64]) {
     }
 }
 
-/// Two workers take one list of outs or two, so only of one is it sure that more suffices too. Of 64
-/// as many are started as there are blocks.
+/// Each allocation of a range is refused in turn. Two workers allocate one list of outs or two, so
+/// only for one worker is it certain that more allocations suffice too. Of 64 workers as many are
+/// started as there are blocks.
 #[test]
 fn each_allocation_of_a_range(rt: HostRuntime) -> Result<(), Fail> {
     for (workers, block) in [(1, BLOCK), (2, BLOCK), (64, HALF)] {
@@ -69,7 +70,7 @@ fn each_allocation_of_a_range(rt: HostRuntime) -> Result<(), Fail> {
     Ok(())
 }
 
-/// A block that is as long as the range is worked out by the caller, in one allocation.
+/// A block that is as long as the range is computed by the calling thread, in one allocation.
 #[test]
 fn each_allocation_of_one_block(rt: HostRuntime) -> Result<(), Fail> {
     let none = Sparing::new(rt.alloc(), 0);

@@ -1,4 +1,4 @@
-//! Pools over any allocator.
+//! Pools over any allocator, opened by each of the three calls. `pools.rt` runs them.
 ghost use Rattle.worker_pool.specs.Callers.{IsCaller, StaysCaller};
 
 use crate::splits::{Ends, Splits};
@@ -16,15 +16,15 @@ use worker_pool::{
 /// How a pool is opened.
 #[derive(Clone, Copy, Debug)]
 pub(crate) enum Entry {
-    /// With a body, which schedules the root.
+    /// By `with_pool`, whose body schedules the root.
     Body,
-    /// For the root.
+    /// By `with_root`.
     Root,
-    /// For the root, over one count.
+    /// By `with_counted_root`.
     CountedRoot,
 }
 
-/// How often a pool called its body, or what comes after its root, and how its jobs ended.
+/// How often a pool called its body, or the function after its root, and how its jobs ended.
 #[derive(Drop)]
 pub(crate) struct Counts {
     calls: AtomicU64,
@@ -44,7 +44,7 @@ impl Counts {
     }
 }
 
-/// What a pool of so many workers leaves that runs the root.
+/// Runs the root in a pool of the given number of workers, and returns what the pool leaves.
 pub(crate) fn run_root<RT, A>(
     rt: &RT,
     alloc: A,
@@ -71,7 +71,7 @@ where
     }
 }
 
-/// The root is scheduled by the body.
+/// Runs the root in a pool whose body schedules it.
 fn scheduled<W, R, L, RT, J, A>(
     rt: &RT,
     alloc: A,
@@ -109,7 +109,7 @@ where
     )
 }
 
-/// The pool is opened for the root.
+/// Runs the root by `with_root`.
 fn planted<RT, A>(
     rt: &RT,
     alloc: A,
@@ -135,7 +135,7 @@ where
     )
 }
 
-/// The same, over one count.
+/// Runs the root by `with_counted_root`.
 fn counted<RT, A>(
     rt: &RT,
     alloc: A,

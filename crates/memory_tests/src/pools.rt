@@ -1,4 +1,4 @@
-//! Pools that are opened, worked in and closed.
+//! Tests of pools that are opened, worked in and closed, with an allocator that refuses.
 use crate::opened::{Counts, Entry, run_root};
 use crate::refusing::Sparing;
 use crate::splits::Splits;
@@ -9,15 +9,16 @@ use std::test::Fail;
 use std::thread::Threads;
 use worker_pool::PoolFault;
 
-/// How many jobs the root becomes, each with an out.
+/// How many jobs the root becomes. Each has an out.
 const JOBS: u64 = 40;
 
-/// How many allocations beyond its opening's a pool is tried with, which suffice for all jobs.
+/// How many allocations after its opening a pool is tried with at most. They suffice for all jobs.
 const MOST_MORE: u64 = 64;
 
-/// How pools are opened, numbers of workers, and how many allocations an opening takes: under locks
-/// the rows three and one for each worker, and the count nine; over one count both together 26; the
-/// stop word two, the coprimes and the hands one each, and four the lists of what comes home.
+/// How pools are opened, numbers of workers, and how many allocations an opening makes. With locks
+/// the rows make three and one for each worker, and the count makes nine. Over one count, rows and
+/// count make 26. The stop word makes two, the coprimes and the states of the workers one each, and
+/// the lists of what comes home four.
 const OPENINGS: &[(Entry, u32, u64)] = &[
     (Entry::Body, 1, 21),
     (Entry::Body, 2, 22),
@@ -32,18 +33,18 @@ const OPENINGS: &[(Entry, u32, u64)] = &[
 struct Opened {
     entry: Entry,
     workers: u32,
-    /// The place whose job finds no memory in its last step, if there is one.
+    /// The place whose job runs out of memory in its last step, if there is one.
     starved_place: Option<u64>,
 }
 
-/// What a pool leaves that runs the root.
+/// What a pool that ran the root leaves.
 #[derive(Drop)]
 struct Ran {
     fault: Option<PoolFault>,
     calls: u64,
     steps: u64,
     refused: u64,
-    // How many jobs were abandoned, and how many found no memory in a step.
+    // How many jobs were abandoned, and how many ran out of memory in a step.
     abandons: u64,
     starved: u64,
     // How many jobs are handed back.
@@ -56,7 +57,7 @@ struct Ran {
     outs: Vec<u64>,
 }
 
-/// A pool in which each step finds memory.
+/// Returns a pool in which no step runs out of memory.
 fn pool_of(entry: Entry, workers: u32) -> Opened {
     Opened {
         entry,
@@ -65,7 +66,7 @@ fn pool_of(entry: Entry, workers: u32) -> Opened {
     }
 }
 
-/// What a pool leaves that gets so many allocations.
+/// Runs a pool that gets the given number of allocations, and returns what it leaves.
 fn run_with<RT: Threads + Wait + Sync>(
     rt: &RT,
     alloc: Global,
@@ -109,8 +110,8 @@ fn run_with<RT: Threads + Wait + Sync>(
     Ok(ran)
 }
 
-/// Each job has left its place once or was refused, and none was handed back. One that was refused
-/// was abandoned, once, or found no memory in a step.
+/// Checks that each job has left its place once or was refused, and that no job was handed back. A
+/// refused job was abandoned once, or ran out of memory in a step.
 fn expect_all_ended<R: Abort>(rt: &R, pool: Opened, ran: &Ran) {
     let ended = (ran.fault, ran.calls, ran.left, ran.lists as u64);
     assert_eq!(rt; ended, (None, 1, 0, u64::from(pool.workers) + 1));
@@ -126,7 +127,7 @@ fn expect_all_ended<R: Abort>(rt: &R, pool: Opened, ran: &Ran) {
     assert!(rt; each_once && each_below, "{pool:?}");
 }
 
-/// Where a pool isn't opened, nothing is called and no step taken.
+/// If a pool is not opened, its body is not called, and no job takes a step.
 #[test]
 fn each_allocation_of_an_opening(rt: HostRuntime) -> Result<(), Fail> {
     for &(entry, workers, takes) in OPENINGS {
@@ -141,8 +142,8 @@ fn each_allocation_of_an_opening(rt: HostRuntime) -> Result<(), Fail> {
     Ok(())
 }
 
-/// Without one more the root finds no room for its out, and takes no step; with ample memory all jobs
-/// find room.
+/// With the allocations of the opening alone, the root gets no memory for its out, and takes no
+/// step. With ample memory no job is refused.
 #[test]
 fn no_allocation_after_an_opening_and_ample(rt: HostRuntime) -> Result<(), Fail> {
     for &(entry, workers, takes) in OPENINGS {
@@ -158,9 +159,9 @@ fn no_allocation_after_an_opening_and_ample(rt: HostRuntime) -> Result<(), Fail>
     Ok(())
 }
 
-/// Whoever runs the jobs, those that find no room for an out are refused: at one allocation there is
-/// room for some, and at the most for all. One worker runs the jobs by their places, so those that
-/// find room are the first.
+/// On any number of workers, the jobs that get no memory for their outs are refused. One more
+/// allocation suffices for some jobs, and the most allocations suffice for all. One worker runs the
+/// jobs in the order of their places, so the jobs that get memory are the first.
 #[test]
 fn each_allocation_after_an_opening(rt: HostRuntime) -> Result<(), Fail> {
     for &(entry, workers, takes) in OPENINGS {
@@ -184,7 +185,7 @@ fn each_allocation_after_an_opening(rt: HostRuntime) -> Result<(), Fail> {
     Ok(())
 }
 
-/// Each job in turn finds no memory in its last step, where it finds room for its out.
+/// Each job in turn runs out of memory in its last step, if it got memory for its out.
 #[test]
 fn each_allocation_where_a_step_finds_no_memory(rt: HostRuntime) -> Result<(), Fail> {
     for &(entry, workers, takes) in OPENINGS {

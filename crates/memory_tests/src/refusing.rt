@@ -1,8 +1,10 @@
-//! An allocator that refuses, for tests.
+//! An allocator that refuses, for tests. Its proofs show that it hands out and takes back memory as
+//! its inner allocator does.
 use std::alloc::{AllocError, Allocator};
 use std::sync::atomic::{AtomicU64, Ordering};
 
-/// Lets some allocations through, and refuses those after them, whichever threads ask.
+/// An allocator that lets the first `left` allocations through, and refuses all later ones, on any
+/// threads.
 pub(crate) struct Sparing<B: Allocator> {
     inner: B,
     left: AtomicU64,
@@ -23,7 +25,8 @@ impl<B: Allocator> Drop for Sparing<B> {
     }
 }
 
-/// Whether one more allocation is let through. Each that is takes one off, in one step.
+/// Takes 1 off the number of allocations that are left, in one step, and returns whether there was
+/// one.
 fn lets_through(left: &AtomicU64) -> bool {
     left.fetch_update(Ordering::SeqCst, Ordering::SeqCst, |count| {
         count.checked_sub(1)

@@ -1,19 +1,20 @@
-//! A job that splits off others.
+//! A job that splits off others, and counts how the jobs end.
 use std::alloc::{AllocError, Allocator};
 use std::sync::atomic::{AtomicU64, Ordering};
 use worker_pool::{Job, Progress};
 
-/// Leaves its place, once it has split off a job for each of so many places behind it.
+/// A job that splits off a job for each of the `more` places after its own, and then leaves its
+/// place as its out.
 #[derive(Debug, Drop, PartialEq)]
 pub(crate) struct Splits {
     pub(crate) place: u64,
     pub(crate) more: u64,
 }
 
-/// How the jobs of a pool end.
+/// Counts of how the jobs of a pool end.
 #[derive(Drop)]
 pub(crate) struct Ends {
-    /// The place whose job finds no memory in its last step, if there is one.
+    /// The place whose job runs out of memory in its last step, if there is one.
     starved_place: Option<u64>,
     steps: AtomicU64,
     starved: AtomicU64,
@@ -30,17 +31,17 @@ impl Ends {
         }
     }
 
-    /// How many steps were taken.
+    /// Returns how many steps were taken.
     pub(crate) fn steps(&self) -> u64 {
         self.steps.load(Ordering::SeqCst)
     }
 
-    /// How many steps found no memory.
+    /// Returns how many steps ran out of memory.
     pub(crate) fn starved(&self) -> u64 {
         self.starved.load(Ordering::SeqCst)
     }
 
-    /// How often a job was abandoned.
+    /// Returns how often a job was abandoned.
     pub(crate) fn abandons(&self) -> u64 {
         self.abandons.load(Ordering::SeqCst)
     }

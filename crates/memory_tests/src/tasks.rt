@@ -1,4 +1,4 @@
-//! Jobs of one step, in pools that may be cancelled.
+//! Tests of jobs of one step in pools that may be cancelled, with an allocator that refuses.
 use crate::limited::{Limited, Taken, run_jobs};
 use crate::refusing::Sparing;
 use crate::splits::{Ends, Splits};
@@ -13,10 +13,10 @@ use worker_pool::{BoxedJob, BoxedTask, Closed, Job, PoolFault, TaskOut};
 /// How many jobs are scheduled.
 const JOBS: u64 = 16;
 
-/// How many allocations a pool is tried with at most, which suffice for its opening and all jobs.
+/// The most allocations that a pool is tried with. They suffice for its opening and for all jobs.
 const MOST: u64 = 64;
 
-/// Answers its tag, and counts that it ran.
+/// A task that answers its tag, and counts that it ran.
 #[derive(Drop)]
 struct Counted {
     tag: u64,
@@ -40,7 +40,7 @@ impl BoxedTask for Counted {
     }
 }
 
-/// What tells a job, or what it leaves, from others.
+/// The number that distinguishes a job, or its out, from others.
 trait Placed {
     fn place(&self) -> u64;
 }
@@ -78,11 +78,12 @@ struct Ended {
     outs: u64,
     left: u64,
     refused: u64,
-    // How many jobs ran, and how many were abandoned where that is known.
+    // How many jobs ran, and how many were abandoned if this is known.
     runs: u64,
     abandons: Option<u64>,
 }
 
+/// Collects what a pool leaves.
 fn ended_of<J, A>(
     alloc: Global,
     closed: Result<Closed<J, A>, PoolFault>,
@@ -123,7 +124,7 @@ where
     Ok(ended)
 }
 
-/// The tasks of some tags.
+/// Returns tasks with the tags in `[tags.0, tags.1)`.
 fn tasks(
     alloc: Global,
     runs: &Arc<AtomicU64>,
@@ -137,7 +138,8 @@ fn tasks(
     Ok(jobs)
 }
 
-/// What a pool that gets so many allocations leaves of boxed tasks.
+/// Runs boxed tasks in a pool that gets the given number of allocations, and returns what it
+/// leaves.
 fn run_tasks<RT: Threads + Wait + Sync>(
     rt: &RT,
     alloc: Global,
@@ -152,7 +154,7 @@ fn run_tasks<RT: Threads + Wait + Sync>(
     ended_of(alloc, closed, runs.load(Ordering::SeqCst), None)
 }
 
-/// The jobs of some places, which split off none.
+/// Returns jobs for the places in `[places.0, places.1)`, which split off no others.
 fn singles(alloc: Global, places: (u64, u64)) -> Result<Vec<Splits>, AllocError> {
     let mut jobs = Vec::new(alloc);
     for place in places.0..places.1 {
@@ -161,7 +163,8 @@ fn singles(alloc: Global, places: (u64, u64)) -> Result<Vec<Splits>, AllocError>
     Ok(jobs)
 }
 
-/// The same of jobs that count how they end.
+/// Runs jobs that count how they end, in a pool that gets the given number of allocations, and
+/// returns what it leaves.
 fn run_singles<RT: Threads + Wait + Sync>(
     rt: &RT,
     alloc: Global,
@@ -176,8 +179,8 @@ fn run_singles<RT: Threads + Wait + Sync>(
     ended_of(alloc, closed, ends.steps(), Some(ends.abandons()))
 }
 
-/// Each job ran once and has an out, or is left where the pool was cancelled, or was refused: then it
-/// was abandoned, and no other was.
+/// Checks that each job ran once and has an out, or is left in a cancelled pool, or was refused. A
+/// job was abandoned exactly if it was refused.
 fn expect_each_once<R: Abort>(rt: &R, pool: Limited, ended: &Ended) {
     let jobs = (ended.places.len() as u64).checked_add(ended.refused);
     let abandons = ended.abandons.unwrap_or(ended.refused);
@@ -190,8 +193,8 @@ fn expect_each_once<R: Abort>(rt: &R, pool: Limited, ended: &Ended) {
     assert!(rt; each_once && each_below && may_be_left, "{pool:?}");
 }
 
-/// Workers, how many are started, how many jobs are scheduled before a cancel, and when they can be
-/// taken.
+/// Numbers of workers, how many are started, how many jobs are scheduled before a cancel, and when
+/// they can be taken.
 const POOLS: &[(u32, u32, u64, Taken)] = &[
     (1, 0, 16, Taken::AnyTime),
     (1, 1, 8, Taken::AnyTime),
@@ -204,8 +207,8 @@ const POOLS: &[(u32, u32, u64, Taken)] = &[
     (1, 1, 8, Taken::AtTheEnd),
 ];
 
-/// From the first number of allocations on that opens the pool, each job ends in one way. With the
-/// most of them none is refused.
+/// From the first number of allocations that opens the pool, each job ends in one way. With the
+/// most allocations no job is refused.
 #[test]
 fn each_allocation_of_jobs_and_a_cancel(rt: HostRuntime) -> Result<(), Fail> {
     for &(workers, starts, first, taken) in POOLS {

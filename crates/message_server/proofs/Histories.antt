@@ -1,7 +1,7 @@
--- What was read and written, piece by piece.
-use Rattle.std.proofs.Common.{◌≡◌, ℕ, List, [], ◌++◌, Option, Some, None, option_map, refl, ap, sym, ◌∙◌, append_assoc}
+-- Histories after several reads or writes.
+use Rattle.std.proofs.Common.{◌≡◌, ◌≤◌, ◌+◌, ℕ, List, [], ◌++◌, Option, Some, None, option_map, refl, ap, sym, ◌∙◌, subst, append_assoc, arith}
 use Rattle.std.proofs.lemmas.List.{append-nil}
-use Rattle.message_server.specs.History.{History, reading, writing}
+use Rattle.message_server.specs.History.{History, reading, writing, AddsAtMost}
 use Rattle.message_server.specs.Pieces.{Reads}
 use Rattle.message_server.proofs.Streams.{Consumes-trans}
 
@@ -31,3 +31,19 @@ Reads-trans a b c h k m xs ys first then = record {
   consumed = Consumes-trans a b c xs ys first.consumed then.consumed;
   noted = reading-more h k m xs ys first.noted then.noted;
 }
+
+-- no write
+pub adds_none : (most : ℕ) (n : Option ℕ) → AddsAtMost most n n
+adds_none most None = tt
+adds_none most (Some n) = omega arith
+
+-- one write more, and whether it took all
+pub adds-more : (most one more : ℕ) (a b c : Option ℕ) → AddsAtMost most a b → c ≡ option_map (λ k. k + one) b → most + one ≤ more
+    → AddsAtMost more a c
+adds-more most one more None None c adds is fits = subst (λ (o : Option ℕ). AddsAtMost more None o) (sym is) tt
+adds-more most one more None (Some k) c adds is fits = absurd adds
+adds-more most one more (Some n) None c adds is fits = absurd adds
+adds-more most one more (Some n) (Some k) c adds is fits =
+    let before : k ≤ n + most = adds in
+    let after : k + one ≤ n + more = omega (arith, before, fits) in
+    subst (λ (o : Option ℕ). AddsAtMost more (Some n) o) (sym is) after

@@ -2,4 +2,3 @@ pub mod Streams
 pub mod Histories
 pub mod Takings
 pub mod Serving
-pub mod Following

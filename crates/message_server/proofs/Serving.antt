@@ -65,7 +65,7 @@ module _ {A : Type 0} (f : Framing A) where
   one_more given a =
       ap (λ (l : List ℕ). bytes_answering f given ++ l) (sym (append-nil (f.bytes_of a))) ∙ sym (flat_map-append f.bytes_of given (a ∷ []))
 
-  -- a front of the answers to some messages is one of the answers to more
+  -- a prefix of the answers to some messages is a prefix of the answers to more
   pub CutsShort-more : (ms more : List (List ℕ)) (others : List A) (held : List ℕ) (c : Option (List ℕ)) → AreAnswers f more others
       → CutsShort f ms held c → CutsShort f (ms ++ more) held c
   CutsShort-more ms more others held c are cut =
@@ -205,7 +205,7 @@ module _ {A : Type 0} (f : Framing A) where
       | inr ended ↦ inr (ended.0 ∙ same, old ++ stops.read, ended.2, inside r0 r1 r2 s.done old stops.read s.consumed stops.consumed ended.1 s.whole)
     ]
 
-    -- a front of the last answer was written
+    -- a prefix of the last answer was written
     cut_short : (r0 r1 c0 c1 c2 c3 : Option (List ℕ)) (h : Option History) (old message held : List ℕ) (a : A) (s : Serves f p r0 r1 c0 c1 h old)
         → f.IsAnswer message a → c2 ≡ c1 → AppendsFront c2 c3 (f.bytes_of a) → c0 ≡ Some held → CutsShort f (s.done ++ message ∷ []) held c3
     cut_short r0 r1 c0 c1 c2 c3 h old message held a s answers quiet cut holds =

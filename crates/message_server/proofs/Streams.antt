@@ -52,7 +52,7 @@ pub Appends-Some : (held : List ℕ) (after : Option (List ℕ)) (xs : List ℕ)
 Appends-Some held None xs h = absurd h
 Appends-Some held (Some all) xs h = ap Some h
 
--- a front and the front of the rest are a longer front
+-- a prefix and a prefix of the rest are a longer prefix
 pub take-front : (line : List ℕ) (written count : ℕ)
     → take written line ++ take count (take (length line - written) (drop written line)) ≡ take (written + count) line
 take-front line written count =

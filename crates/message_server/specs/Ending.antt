@@ -1,4 +1,4 @@
--- What a program ends with that answers messages.
+-- The ending of a program that answers messages: its exit status, and its line on standard error.
 use Rattle.std.specs.Prelude.{◌≡◌, ◌⊎◌, ℕ, List, [], ◌∷◌, ◌++◌, codes}
 use Rattle.std.specs.Prelude.{Option, Some, None, option_map}
 use Rattle.message_server.specs.Streams.{HasFailed}
@@ -15,26 +15,28 @@ abbrev pub complaint_of : StreamFault → List ℕ
 complaint_of ReadFault = codes "error 16 ReadFault" ++ 10 ∷ []
 complaint_of WriteFault = codes "error 17 WriteFault" ++ 10 ∷ []
 
--- what stands on standard error
+-- the bytes that a program writes on standard error, if any
 abbrev pub complaint_in : Ending → Option (List ℕ)
 complaint_in e = option_map (λ line. line.now) e.complaint
 
--- nothing on standard error
+-- the program ends with this status and nothing on standard error
 abbrev pub IsQuiet : ℕ → Ending → Type 0
 IsQuiet status e = (e.status ≡ status) × (complaint_in e ≡ None)
 
--- the line of a stream fault there
+-- the program ends with status 1 and the line of this stream fault on standard error
 abbrev pub IsComplaint : StreamFault → Ending → Type 0
 IsComplaint fault e = (e.status ≡ 1) × (complaint_in e ≡ Some (complaint_of fault))
 
--- it ends so, and where what was left to read and what was held are known, this holds of them
+-- the program's ending satisfies `IsEnd`. If the bytes that were left to read and the bytes that
+-- the sink held are known, `Holds` is true of them.
 pub record EndsWith (IsEnd : Ending → Type 0) (Holds : List ℕ → List ℕ → Type 0)
     (stream held : Option (List ℕ)) (e : Ending) : Type 0 where
   pub ended : IsEnd e
   pub holds : (s h : List ℕ) → stream ≡ Some s → held ≡ Some h → Holds s h
 
--- all was answered, or the reading stopped, or the writing, by the numbers of failures of reads and
--- of writes, before and after
+-- a server ends in one of three ways: every message was answered, the reading stopped, or the
+-- writing stopped. `reads` and `writes` are the numbers of failures of each stream, before and
+-- after.
 abbrev pub EndsServing : (List ℕ → List ℕ → Type 0) → (List ℕ → List ℕ → Type 0)
     → (List ℕ → List ℕ → Type 0) → Type 0
     → Option (List ℕ) → Option (List ℕ) → ℕ × ℕ → ℕ × ℕ → Ending → Type 0

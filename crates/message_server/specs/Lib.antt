@@ -3,7 +3,7 @@ pub mod History
 pub mod Parting
 pub mod Serving
 pub mod Streams
--- for private clauses of the crates above
+-- for the private clauses of tensor_runner and frame_server
 pub mod Pieces
 pub mod Server
 pub mod Taking

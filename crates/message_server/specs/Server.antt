@@ -1,15 +1,15 @@
--- How far messages are answered, for private clauses.
+-- How far the loop has answered the messages of a client, for private clauses.
 use Rattle.std.specs.Prelude.{◌≡◌, ℕ, List, ◌++◌, All, Option, IfSome}
 use Rattle.std.specs.Io.KnownBytes.{Appends, Consumes}
 use Rattle.message_server.specs.History.{History}
 use Rattle.message_server.specs.Parting.{Parting, joined}
 use Rattle.message_server.specs.Serving.{Framing, AreAnswers, bytes_answering}
 
--- all of this was read and written
+-- the history has exactly these bytes read and these bytes written
 abbrev pub IsAllOf : List ℕ → List ℕ → History → Type 0
 IsAllOf taken written h = (h.taken ≡ taken) × (h.written ≡ written)
 
--- each message before what is pending was answered
+-- each message before the pending bytes was answered, and nothing else was written
 pub record Serves {A : Type 0} (f : Framing A) (p : Parting)
     (before after had contents : Option (List ℕ)) (h : Option History) (pending : List ℕ)
     : Type 0 where

@@ -1,21 +1,25 @@
--- How often a stream was called, and how often it failed.
+-- How many calls of a stream were made, and how many failed.
 use Rattle.std.specs.Prelude.{◌≡◌, ◌⊎◌, ◌+◌, ◌-◌, ◌^◌, ◌<◌, ℕ, zero, suc, min, Bool, true, false}
 use Rattle.std.specs.Prelude.{if◌then◌else◌, Result, Ok, Err}
 
--- one more, up to the greatest `u64`, where a number stays
+-- a number plus one; the greatest `u64` stays as it is
 abbrev pub one_more : ℕ → ℕ
 one_more n = min (n + 1) (2 ^ 64 - 1)
 
--- a call failed, by the numbers of failures before and after: it is more, or at the greatest number
+-- a call failed: the number of failures grew, or is the greatest `u64`
 abbrev pub HasFailed : ℕ → ℕ → Type 0
 HasFailed before after = (before < after) ⊎ (after ≡ 2 ^ 64 - 1)
 
--- whether a write took bytes; where it did not, it failed
+-- whether a write took a byte or more; if not, it failed
 abbrev pub took_some : {E : Type 0} → Result ℕ E → Bool
 took_some (Ok zero) = false
 took_some (Ok (suc n)) = true
 took_some (Err e) = false
 
--- the failures after a call, which went well or not
+-- the number of failures after a call that succeeded (`well`) or failed
 abbrev pub failures_after : Bool → ℕ → ℕ
 failures_after well n = if well then n else one_more n
+
+-- how often a stream is called for one read or write, if signals interrupt each call
+abbrev pub most_calls : ℕ
+most_calls = 2 ^ 64 - 1

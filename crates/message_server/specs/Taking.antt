@@ -1,4 +1,4 @@
--- The message that comes next, for the clauses of a protocol.
+-- What a call of `take` takes from a client's bytes, for the clauses of a protocol.
 use Rattle.std.specs.Prelude.{◌≡◌, ◌⊎◌, ℕ, List, [], ◌∷◌, ◌++◌, Option}
 use Rattle.std.specs.Io.KnownBytes.{Consumes, IsAtEnd}
 use Rattle.message_server.specs.History.{History}
@@ -8,7 +8,7 @@ use Rattle.message_server.specs.Streams.{HasFailed}
 use Rattle.message_server.specs.declared.protocol.Next.{Next}
 use Rattle.message_server.specs.declared.protocol.Next.TheVariants as next
 
--- the bytes ended, and these messages stand in what was pending and read
+-- the client's bytes ended, and these messages stand in the pending bytes and those that were read
 pub record EndsBy (p : Parting) (before after : Option (List ℕ)) (h k : Option History)
     (old : List ℕ) (last : List (List ℕ)) : Type 0 where
   pub read : List ℕ
@@ -17,7 +17,7 @@ pub record EndsBy (p : Parting) (before after : Option (List ℕ)) (h k : Option
   pub at_end : IsAtEnd after
 
 module _ {M : Type 0} (p : Parting) (IsKept : List ℕ → M → Type 0) where
-  -- a message was taken of what was pending and read, with what ends it, and this is kept of it
+  -- a message was taken together with what ends it, and `kept` is what is kept of it
   pub record TakesMessage (before after : Option (List ℕ)) (h k : Option History)
       (old new : List ℕ) (kept : M) : Type 0 where
     pub message : List ℕ
@@ -25,13 +25,14 @@ module _ {M : Type 0} (p : Parting) (IsKept : List ℕ → M → Type 0) where
     pub whole : p.IsMessage message
     pub kept_of : IsKept message kept
 
-  -- the same of one that the end of the bytes ends
+  -- a message was taken that the end of the client's bytes ends, and `kept` is what is kept of it
   pub record TakesLast (before after : Option (List ℕ)) (h k : Option History)
       (old : List ℕ) (kept : M) : Type 0 where
     pub message : List ℕ
     pub ends : EndsBy p before after h k old (message ∷ [])
     pub kept_of : IsKept message kept
 
+  -- what was taken, for each result of `take`
   abbrev pub TakesNext : Option (List ℕ) → Option (List ℕ) → Option History → Option History
       → List ℕ → List ℕ → Next M → Type 0
   TakesNext before after h k old new (next.Message kept) =
@@ -39,8 +40,8 @@ module _ {M : Type 0} (p : Parting) (IsKept : List ℕ → M → Type 0) where
   TakesNext before after h k old new (next.Last kept) = TakesLast before after h k old kept
   TakesNext before after h k old new next.End = EndsBy p before after h k old []
 
--- the reading stopped in a message: a read failed, by the numbers of failures before and after, or the
--- bytes ended
+-- the reading stopped inside a message: a read failed, or the client's bytes ended. `failed` and
+-- `fails` are the numbers of failed reads before and after.
 pub record StopsIn (p : Parting) (before after : Option (List ℕ)) (failed fails : ℕ)
     (old : List ℕ) : Type 0 where
   pub read : List ℕ

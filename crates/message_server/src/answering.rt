@@ -1,4 +1,5 @@
-//! Answers the messages of a client.
+//! The loop over the messages of a client. A change here touches the servers of tensor_runner and
+//! frame_server, whose promises are this contract for one kind of message.
 
 ghost use Rattle.std.specs.Prelude.{◌≡◌, ℕ, List, Some, Err, IfSome, OnOk};
 ghost use Rattle.message_server.specs.History.{IsNew};
@@ -12,13 +13,13 @@ use crate::fault::StreamFault;
 use crate::protocol::{Next, Protocol};
 use std::sync::Wait;
 
-/// Answers each message of a client's, in order, until the client's bytes end. Each answer is written
+/// Answers each message of a client, in order, until the client's bytes end. Each answer is written
 /// before more is read.
 ///
 /// # Errors
 ///
-/// [`StreamFault::ReadFault`] where no message can be taken any more, [`StreamFault::WriteFault`] at an
-/// error of a write, or where it takes nothing.
+/// [`StreamFault::ReadFault`] if a read fails or the bytes end inside a message,
+/// [`StreamFault::WriteFault`] if a write fails or takes no byte.
 pub fn answer_messages<RT: Wait, C: Client, P: Protocol<RT>>(
     rt: &RT,
     client: &mut C,
@@ -32,7 +33,7 @@ pub fn answer_messages<RT: Wait, C: Client, P: Protocol<RT>>(
         → C.contents client.old ≡ Some held
         → OnOk result (AnswersAll P.parting (P.framing (P.rules protocol.old))
         stream held (C.contents client.new)) }
-    // Nothing of a message is answered that isn't whole.
+    // A message that isn't whole gets no answer.
     ensures broken_off { (stream held : List ℕ) → C.remaining client.old ≡ Some stream
         → C.contents client.old ≡ Some held → result ≡ Err StreamFault.ReadFault
         → BreaksOff (P.framing (P.rules protocol.old))

@@ -1,14 +1,16 @@
-//! Holds what was read of a client and belongs to no message yet.
+//! The input buffer of a client: bytes that were read and belong to no message yet. A change here
+//! touches the code that takes messages out of it, `taking.rt` of tensor_runner and of
+//! frame_server, and specs/Pieces.antt.
 
 ghost use Rattle.std.specs.Prelude.{◌≤◌};
 
 use crate::client::Client;
 use crate::fault::StreamFault;
 
-/// How many bytes a read asks for at most.
+/// The number of bytes that the buffer holds, and the most that one read asks for.
 const CHUNK: usize = 65_536;
 
-/// Bytes that were read and belong to no message yet.
+/// A buffer of bytes that were read and belong to no message yet.
 #[derive(Drop)]
 pub struct InputBuffer {
     bytes: [u8; CHUNK],
@@ -26,7 +28,7 @@ impl InputBuffer {
     ghost use Rattle.message_server.specs.Pieces.{Takes, FailsIn};
     ghost use Rattle.message_server.specs.Streams.{HasFailed};
 
-    /// Nothing yet.
+    /// Returns an empty buffer.
     pub fn new() -> InputBuffer
         ensures { pending_bytes result ≡ [] }
     {
@@ -37,14 +39,14 @@ impl InputBuffer {
         }
     }
 
-    /// What is there.
+    /// Returns the bytes that were read and not yet skipped.
     pub fn pending(&self) -> &[u8]
         ensures { result.now ≡ pending_bytes self.now }
     {
         &self.bytes[self.start..self.end]
     }
 
-    /// Passes over so many bytes.
+    /// Removes the first `count` pending bytes.
     pub fn skip(&mut self, count: usize)
         requires { count ≤ length (pending_bytes self.old) }
         ensures { pending_bytes self.new ≡ drop count (pending_bytes self.old) }
@@ -52,7 +54,7 @@ impl InputBuffer {
         self.start += count;
     }
 
-    /// Moves what is there to the front.
+    /// Moves the pending bytes to the front of the array.
     fn settle(&mut self)
         ensures pending { pending_bytes self.new ≡ pending_bytes self.old }
         ensures start { self.new.start ≡ 0 }
@@ -63,7 +65,8 @@ impl InputBuffer {
         self.start = 0;
     }
 
-    /// Reads more behind what is there. Answers whether there was more.
+    /// Makes one read behind the pending bytes. Returns whether it read any; if not, the client's
+    /// bytes are at their end.
     fn refill<C: Client>(&mut self, client: &mut C) -> Result<bool, StreamFault>
         requires room { IsBelow 65536 (pending_bytes self.old) }
         requires owes { IfSome (C.history client.old) C.owes_nothing }
@@ -91,12 +94,12 @@ impl InputBuffer {
         }
     }
 
-    /// Reads until so many bytes are there. Answers whether they are; they aren't where the client's
-    /// bytes are at their end.
+    /// Reads until at least `count` bytes are pending. Returns false if the client's bytes end
+    /// before.
     ///
     /// # Errors
     ///
-    /// [`StreamFault::ReadFault`] at any error of a read.
+    /// [`StreamFault::ReadFault`] if a read fails.
     pub fn wait_for<C: Client>(&mut self, client: &mut C, count: usize) -> Result<bool, StreamFault>
         requires room { count ≤ 16 }
         requires owes { IfSome (C.history client.old)

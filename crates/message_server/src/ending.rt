@@ -1,23 +1,25 @@
-//! Says what a program ends with: its status, and what it complains of.
+//! The ending of a program: its exit status, and its line on standard error. A change here touches
+//! the mains tensor_run, tensor_lines and tensor_frames, and docs/REQUEST.md.
 
 ghost use Rattle.std.specs.Prelude.{◌≡◌, MatchResult};
 ghost use Rattle.message_server.specs.Ending.{IsQuiet, IsComplaint};
 
 use crate::fault::StreamFault;
 
-/// The exit status, and what stands on standard error.
+/// The exit status of a program, and what it writes on standard error.
 #[derive(Clone, Copy, Debug, Drop, Eq, PartialEq)]
 pub struct Ending {
-    /// 0 for a tensor's line, 1 for a fault's; of many messages 0; 1 where a stream failed.
+    /// The exit status. It is 1 if a stream failed. Otherwise a program that answers one text ends
+    /// with 0 for a tensor and 1 for a fault, and a program that answers many messages with 0.
     pub status: u8,
-    /// The line of a stream fault, with its line feed.
+    /// The line for standard error, with its line feed, if a stream failed.
     pub complaint: Option<&'static str>,
 }
 
 impl Ending {
     ghost use Rattle.message_server.specs.Ending.{IsQuiet, IsComplaint};
 
-    /// This status, and nothing on standard error.
+    /// Returns an ending with this status and nothing on standard error.
     pub fn quiet(status: u8) -> Ending
         ensures { IsQuiet status result }
     {
@@ -27,7 +29,7 @@ impl Ending {
         }
     }
 
-    /// The line of a stream fault on standard error, and status 1.
+    /// Returns the ending for a stream fault: its line on standard error, and status 1.
     pub fn complaining(fault: StreamFault) -> Ending
         ensures { IsComplaint fault result }
     {
@@ -42,8 +44,8 @@ impl Ending {
     }
 }
 
-/// What a program ends with that answered many requests: status 0, or the line of the fault that
-/// stopped it.
+/// Returns the ending of a program that answers many requests: status 0, or the ending for the
+/// stream fault that stopped it.
 pub fn ending_of(served: Result<(), StreamFault>) -> Ending
     ensures { MatchResult served (λ _. IsQuiet 0 result) (λ fault. IsComplaint fault result) }
 {

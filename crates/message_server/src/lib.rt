@@ -1,5 +1,6 @@
-//! What a server of messages stands on, whatever these are: a client, the room for what was read of
-//! it, the writing of an answer, and what a program ends with.
+//! The loop of a server that answers many messages, for any kind of message: the client, the buffer
+//! for its bytes, the loop over the messages, and the ending of the program. tensor_runner (lines)
+//! and frame_server (frames) define the two kinds. README.md has the picture.
 #![tactic(auto)]
 
 mod answering;

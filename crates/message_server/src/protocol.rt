@@ -1,8 +1,10 @@
-//! Says what a kind of message is: how messages stand in a client's bytes, and how one is answered.
+//! The trait `Protocol`, which defines one kind of message: how messages stand in a client's bytes,
+//! and how each is answered. A change here touches `answer_messages` and both impls: `LineProtocol`
+//! of tensor_runner and `FrameProtocol` of frame_server, with their `laws`.
 
 ghost use Rattle.std.specs.Prelude.{◌≡◌, ℕ, List, IfOk, IfSome, IfErr, OnOk, OnErr, option_map};
 ghost use Rattle.std.specs.Io.KnownBytes.{Appends};
-ghost use Rattle.message_server.specs.History.{writing};
+ghost use Rattle.message_server.specs.History.{writing, AddsAtMost};
 ghost use Rattle.message_server.specs.Parting.{Parting, Laws};
 ghost use Rattle.message_server.specs.Pieces.{pending_bytes, AppendsFront, OwesNothingWhile};
 ghost use Rattle.message_server.specs.Serving.{Framing};
@@ -13,24 +15,24 @@ use crate::buffer::InputBuffer;
 use crate::client::Client;
 use crate::fault::StreamFault;
 
-/// What comes next of a client's bytes, by what is kept of a message.
+/// What comes next in a client's bytes. `M` is what is kept of a message.
 #[derive(Drop)]
 pub enum Next<M> {
-    /// A message, and more may come.
+    /// A message with its end. More messages may follow.
     Message(M),
-    /// The last message, which the end of the bytes ends.
+    /// The last message, which only the end of the client's bytes ends.
     Last(M),
-    /// The end of the bytes.
+    /// The end of the client's bytes, with no message before it.
     End,
 }
 
-/// How messages stand in a client's bytes, and how one is answered.
+/// One kind of message: how messages stand in a client's bytes, and how each is answered.
 pub trait Protocol<RT> {
-    /// What its answers go by, as limits.
+    /// The rules by which messages are answered, for example the limits of a server.
     type Rules;
-    /// What is kept of a message.
+    /// What is kept of a message until it is answered.
     type Message;
-    /// What answers a message.
+    /// The answer to a message, before it is written.
     type Answer;
 
     ghost rules: { Self → Self.Rules };
@@ -43,15 +45,18 @@ pub trait Protocol<RT> {
 
     ghost told: { Self.Answer → List ℕ };
 
-    // What answering asks of the runtime, as that threads may share it.
+    // The most writes that the answer is written by, if each takes all that it is given.
+    ghost most_writes: { Self.Answer → ℕ };
+
+    // The condition on the runtime `RT` under which `answer` may be called, for example that
+    // threads may share the runtime.
     ghost can_answer: { Type 0 };
 
-    /// Takes the next message, if one stands before the end of the client's bytes.
+    /// Takes the next message, or reports the end of the client's bytes.
     ///
     /// # Errors
     ///
-    /// [`StreamFault::ReadFault`] at any error of a read, and where the client's bytes end in a message
-    /// that their end doesn't end.
+    /// [`StreamFault::ReadFault`] if a read fails, or if the client's bytes end inside a message.
     fn take<C: Client>(
         &mut self,
         rt: &RT,
@@ -74,24 +79,26 @@ pub trait Protocol<RT> {
         ensures write_failures { C.write_failures client.new ≡ C.write_failures client.old }
         ensures rules { rules self.new ≡ rules self.old };
 
-    /// Answers a message.
+    /// Computes the answer to a message, and writes nothing.
     fn answer(&mut self, rt: &RT, message: Self::Message) -> Self::Answer
         requires { can_answer }
         ensures answer { (bytes : List ℕ) → is_kept bytes message
             → (framing (rules self.old)).IsAnswer bytes (told result) }
         ensures rules { rules self.new ≡ rules self.old };
 
-    /// Writes an answer whole. Stops at the first write that fails or takes nothing.
+    /// Writes the whole answer. Stops at the first write that fails or takes no byte.
     ///
     /// # Errors
     ///
-    /// [`StreamFault::WriteFault`]. A front of the answer was written then.
+    /// [`StreamFault::WriteFault`] at that write. What was written is then a prefix of the answer.
     fn write<C: Client>(&mut self, client: &mut C, answer: Self::Answer) -> Result<(), StreamFault>
         ensures ok { OnOk result (Appends (C.contents client.old) (C.contents client.new)
             ((framing (rules self.old)).bytes_of (told answer))) }
         ensures noted { OnOk result (C.history client.new
             ≡ option_map (writing ((framing (rules self.old)).bytes_of (told answer)))
             (C.history client.old)) }
+        ensures few { OnOk result
+            (AddsAtMost (most_writes answer) (C.writes client.old) (C.writes client.new)) }
         ensures ok_failures { OnOk result (C.write_failures client.new
             ≡ C.write_failures client.old) }
         ensures err { IfErr result (λ fault. fault ≡ StreamFault.WriteFault) }

@@ -1,4 +1,5 @@
-//! Streams that a line is written to.
+//! The trait `Sink`, a stream for answers, and `CountedWriter`, its impl over a writer of std. A
+//! change here touches `Connection`, `run` of tensor_runner, and specs/Streams.antt.
 
 ghost use Rattle.std.specs.Prelude.{◌≡◌, ℕ, List, Option};
 ghost use Rattle.std.specs.Io.{WritesAtMost};
@@ -8,7 +9,7 @@ ghost use Rattle.message_server.specs.Streams.{one_more, took_some, failures_aft
 use std::io;
 use std::io::Write;
 
-/// A stream that a line is written to.
+/// A stream that answers are written to, which counts its calls and failures.
 pub trait Sink {
     ghost contents: { Self → Option (List ℕ) };
 
@@ -16,11 +17,12 @@ pub trait Sink {
 
     ghost failures: { Self → ℕ };
 
-    /// Writes some bytes from the front, and answers how many. To take none is a failure.
+    /// Writes some of the first bytes of `bytes`, and returns how many. A write of 0 bytes counts
+    /// as a failure.
     ///
     /// # Errors
     ///
-    /// Whatever the stream fails with. No byte was written then.
+    /// The error of the stream. No byte was written then.
     fn write(&mut self, bytes: &[u8]) -> io::Result<usize>
         ensures bound { WritesAtMost result bytes.now }
         ensures bytes { WriteAppends (contents self.old) (contents self.new) result bytes.now }
@@ -29,19 +31,19 @@ pub trait Sink {
             ≡ failures_after (took_some result) (failures self.old) };
 }
 
-/// Any writer of std, as a list of bytes or the standard output, with its calls counted.
+/// A sink over any writer of std, for example a list of bytes or the standard output.
 #[derive(Drop)]
 pub struct CountedWriter<W: Write + Drop> {
     /// The writer itself.
     pub writer: W,
-    /// How often it was called, up to the greatest `u64`.
+    /// How many writes were made. The count stops at the greatest `u64`.
     pub calls: u64,
-    /// How often it failed or took nothing, up to the greatest `u64`.
+    /// How many writes failed or took no byte. The count stops at the greatest `u64`.
     pub failures: u64,
 }
 
 impl<W: Write + Drop> CountedWriter<W> {
-    /// The writer, before its first call.
+    /// Returns a sink over this writer, with no calls and no failures yet.
     pub fn new(writer: W) -> CountedWriter<W>
         ensures { result ≡ record { writer = writer; calls = 0; failures = 0 } }
     {

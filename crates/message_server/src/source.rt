@@ -1,4 +1,5 @@
-//! Streams that a text is read from.
+//! The trait `Source`, a stream of requests, and `CountedReader`, its impl over a reader of std. A
+//! change here touches `Connection`, `run` of tensor_runner, and specs/Streams.antt.
 
 ghost use Rattle.std.specs.Prelude.{◌≡◌, ℕ, List, Option, is_ok};
 ghost use Rattle.std.specs.Io.{ReadsAtMost};
@@ -8,7 +9,7 @@ ghost use Rattle.message_server.specs.Streams.{one_more, failures_after};
 use std::io;
 use std::io::Read;
 
-/// A stream that a text is read from.
+/// A stream that requests are read from, which counts its calls and failures.
 pub trait Source {
     ghost remaining: { Self → Option (List ℕ) };
 
@@ -16,11 +17,12 @@ pub trait Source {
 
     ghost failures: { Self → ℕ };
 
-    /// Reads some bytes to the front of the buffer, and answers how many. 0 tells the end.
+    /// Reads some bytes into the start of `buffer`, and returns how many. 0 means the end of the
+    /// stream, unless `buffer` is empty.
     ///
     /// # Errors
     ///
-    /// Whatever the stream fails with. No byte is lost then.
+    /// The error of the stream. No byte is lost then.
     fn read(&mut self, buffer: &mut [u8]) -> io::Result<usize>
         ensures bound { ReadsAtMost result buffer.new }
         ensures bytes { ReadConsumes (remaining self.old) (remaining self.new) result buffer.new }
@@ -28,19 +30,19 @@ pub trait Source {
         ensures failures { failures self.new ≡ failures_after (is_ok result) (failures self.old) };
 }
 
-/// Any reader of std, as a slice of bytes or the standard input, with its calls counted.
+/// A source over any reader of std, for example a slice of bytes or the standard input.
 #[derive(Drop)]
 pub struct CountedReader<R: Read + Drop> {
     /// The reader itself.
     pub reader: R,
-    /// How often it was called, up to the greatest `u64`.
+    /// How many reads were made. The count stops at the greatest `u64`.
     pub calls: u64,
-    /// How often it failed, up to the greatest `u64`.
+    /// How many reads failed. The count stops at the greatest `u64`.
     pub failures: u64,
 }
 
 impl<R: Read + Drop> CountedReader<R> {
-    /// The reader, before its first call.
+    /// Returns a source over this reader, with no calls and no failures yet.
     pub fn new(reader: R) -> CountedReader<R>
         ensures { result ≡ record { reader = reader; calls = 0; failures = 0 } }
     {

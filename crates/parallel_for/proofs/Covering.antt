@@ -66,7 +66,7 @@ module _ {J O : Type 0} (law : JobLaw J O) (w : J → ℕ) (v : O → ℕ)
       let same = ap (total v) account.outs_are in
       omega arith
 
--- the leaves of a range are those of its parts
+-- the leaves of a range are the leaves of its parts
 pub weight-halved : (h : Range → ℕ) (whole kid rest : Range) (b : ℕ) → 0 < b → whole.0 < whole.1
     → kid.0 < kid.1 → IsHalved whole kid rest b
     → total h (leaves_of whole.0 whole.1 b)

@@ -51,7 +51,7 @@ module _ (first b : ℕ) where
       rw plain (omega arith) in
       ap (λ (e : ℕ). (first + (0 + k) * b, e)) end)
 
-  -- the leaves from m on are those of the places after m blocks
+  -- the leaves from m on are the leaves of the places after m blocks
   leaves-high : (rest m count : ℕ)
       → map (leaf first (rest + m * b) b) (range_with_len m count)
       ≡ map (leaf (first + m * b) rest b) (range_with_len 0 count)
@@ -96,7 +96,7 @@ leaf-begins n b i some below =
     let next : (i + 1) * b ≤ blocks_of n b * b = mul-le-mul_right b (omega arith) in
     omega (arith, times-add i 1 b, up)
 
--- a leaf as it is worked out
+-- a leaf as the code computes it
 pub leaf-worked_out : (n b i : ℕ) → 0 < b → i < blocks_of n b
     → (i * b, i * b + min b (n - i * b)) ≡ leaf 0 (n - 0) b i
 leaf-worked_out n b i some below =

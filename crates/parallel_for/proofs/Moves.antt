@@ -11,7 +11,8 @@ use Rattle.parallel_for.specs.Leaves.{Range, blocks_of, leaf, leaves_of}
 use Rattle.parallel_for.specs.Table.{missing, AreAmong, IsTaken}
 use Rattle.parallel_for.proofs.Rows.{missing-blank, Contains-from}
 
--- what was missing before is missing still, but for those of the taken that are not left to take
+-- what is missing now is what was missing before, without the ranges of `taken` that are not in
+-- `left`
 pub record AreMoved (before taken now left : List Range) : Type 0 where
   pub weigh : (weight : Range → ℕ)
       → total weight before + total weight left ≡ total weight now + total weight taken
@@ -114,7 +115,7 @@ module _ (before taken now left : List Range) where
         omega (arith, moved.weigh h, same h);
   }
 
-  -- nothing is missing where all that was missing is taken
+  -- nothing is missing once all that was missing is taken
   pub none-missing : left ≡ [] → AreMoved before taken now left → SameBag before taken → now ≡ []
   none-missing none moved same =
       let s = ap (total (λ r. 1)) none in

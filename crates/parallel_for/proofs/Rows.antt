@@ -23,7 +23,7 @@ missing-blank I n b i zero = refl
 missing-blank I n b i (suc m) =
     ap (λ (l : List Range). leaf 0 n b i ∷ l) (missing-blank I n b (i + 1) m)
 
--- where an element stands
+-- the place of an element
 pub Contains-at : {X : Type 0} (xs : List X) (x : X) → Contains xs x
     → (k : ℕ) × (slice_get xs k ≡ Some x)
 Contains-at xs x at = (at.0, slice_get_read xs (length xs) at.0 x refl at.1 (sym at.2))
@@ -68,7 +68,7 @@ module _ {I : Type 0} (n b : ℕ) where
               (subst (λ (j : ℕ). AreOfBlock n b item_at j items) next is),
         )
 
-    -- the first row that is left, where it has items
+    -- the first row that is left, if it has items
     pub IsTable-head : (i : ℕ) (items : List I) (rows all : List (List I))
         → all ≡ items ∷ rows
         → 0 < length items
@@ -185,7 +185,7 @@ module _ {I : Type 0} (n b : ℕ) where
   missing-head i j (x ∷ items) rows all split next some =
       ap (missing n b i) split ∙ ap (λ (k : ℕ). missing n b k rows) (sym next)
 
-  -- where nothing is missing each row has items
+  -- if nothing is missing, each row has items
   pub some-at-head : (i : ℕ) (items : List I) (rows all : List (List I)) (ranges : List Range)
       → all ≡ items ∷ rows
       → ranges ≡ missing n b i all
@@ -268,7 +268,7 @@ module _ {I A : Type 0} where
       → rows_of (set rows k row) ≡ set (rows_of rows) k row.items
   rows_of-set rows k row = map-set (λ (v : Vec I A). v.items) rows k row
 
-  -- where a range is missing, it is a leaf whose row is empty
+  -- a range that is missing is a leaf whose row is empty
   pub missing-leaf : (n b first last : ℕ) (rows : List (Vec I A))
       → 0 < b → length rows ≡ blocks_of n b
       → Contains (missing n b 0 (rows_of rows)) (first, last)

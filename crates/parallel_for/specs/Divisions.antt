@@ -1,4 +1,4 @@
--- What stands where no division is named.
+-- Default values for types in which no division is named.
 use Rattle.std.specs.Prelude.{[]}
 use Rattle.pool_barrier.specs.Seated.{TableId}
 

@@ -1,8 +1,8 @@
--- Block leaves: the ranges that a range of places is cut into.
+-- Leaves: the blocks that a range of places is cut into.
 use Rattle.std.specs.Prelude.{ℕ, ◌+◌, ◌-◌, ◌*◌, ◌/◌, ◌%◌, min, List, map}
 use Rattle.std.specs.List.{range_with_len}
 
--- a range of places: its first, and the one after its last
+-- a range of places: its first place, and the place after its last
 abbrev pub Range : Type 0
 Range = ℕ × ℕ
 
@@ -10,15 +10,16 @@ Range = ℕ × ℕ
 abbrev pub blocks_of : (n block : ℕ) → ℕ
 blocks_of n block = n / block + min 1 (n % block)
 
--- block i of the n places from first on, cut at the end of these places
+-- block i of the n places from first on; the last block ends with these places
 abbrev pub leaf : (first n block i : ℕ) → Range
 leaf first n block i = (first + i * block, first + min ((i + 1) * block) n)
 
--- the block leaves of the places from first to before last, in order
+-- the blocks of the places in [first, last), in order
 abbrev pub leaves_of : (first last block : ℕ) → List Range
 leaves_of first last block =
     let n = last - first in map (leaf first n block) (range_with_len 0 (blocks_of n block))
 
--- where a range is cut in two: half of its places on, rounded up to whole blocks
+-- the place at which a range is cut in two: half of its places from the first on, rounded up to
+-- whole blocks
 abbrev pub middle : (first last block : ℕ) → ℕ
 middle first last block = first + blocks_of ((last - first) / 2) block * block

@@ -20,6 +20,7 @@ module _ {I A : Type 0} where
   abbrev pub all_ranges : List (Vec (Piece I A) A) → List Range
   all_ranges lists = flat_map (λ pieces. ranges_of pieces.items) lists
 
--- the ranges cover the places below n once: they are the block leaves, each once, in any order
+-- the ranges cover the places below n once: they are the blocks of these places, each once, in any
+-- order
 abbrev pub CoverOnce : (n block : ℕ) → List Range → Type 0
 CoverOnce n block ranges = SameBag (leaves_of 0 n block) ranges

@@ -1,8 +1,8 @@
-//! Puts the pieces of a range in order.
+//! Puts the pieces of a range in order. A change here also touches `specs/Table` and `proofs/Rows`.
 //!
-//! Pieces come in any order and from any worker. The account of a pool's jobs says that they cover
-//! the range once, so that each is a block leaf that has not come before, and in the end none is
-//! missing.
+//! Pieces come in any order and from any worker. The account of the pool's jobs says that they
+//! cover the range once. So each piece is a leaf that has not come before, and no leaf is missing
+//! in the end.
 ghost use Rattle.std.specs.Prelude.{◌≡◌, ◌≤◌, ◌<◌, ◌+◌, ◌++◌, [], ◌∷◌};
 ghost use Rattle.std.specs.Prelude.{All, Contains, IfOk, replicate, vec_len, vec_capacity};
 ghost use Rattle.parallel_for.specs.Leaves.{blocks_of};
@@ -15,11 +15,11 @@ use crate::kernel::Kernel;
 use crate::piece::Piece;
 use std::alloc::{AllocError, Allocator};
 
-/// The items of each block, an empty list where they are missing.
+/// The items of each block. The list of a block whose items are missing is empty.
 type Table<I, A> = Vec<Vec<I, A>, A>;
 
-/// The items at the places below `n`, from lists of pieces that cover them once. Of the kernel
-/// nothing is run here: the pieces are of its items.
+/// Returns the items at the places below `n`, in order, from lists of pieces that cover these
+/// places once. The kernel is not run here: it only says which items are right.
 pub(crate) fn collect<K: Kernel, A: Allocator + Clone>(
     alloc: &A,
     kernel: &K,
@@ -39,7 +39,7 @@ pub(crate) fn collect<K: Kernel, A: Allocator + Clone>(
     join(alloc, kernel, n, block, table)
 }
 
-/// A table in which everything is missing.
+/// Returns a table in which the items of all blocks are missing.
 fn blank<I: Drop, A: Allocator + Clone>(
     alloc: &A,
     n: u64,
@@ -58,7 +58,7 @@ fn blank<I: Drop, A: Allocator + Clone>(
     Ok(table)
 }
 
-/// An empty list that has room for so many.
+/// Returns an empty list with room for `count` items.
 fn with_room<T: Drop, A: Allocator + Clone>(
     alloc: &A,
     count: usize,
@@ -70,7 +70,7 @@ fn with_room<T: Drop, A: Allocator + Clone>(
     Vec::with_capacity(alloc.clone()?, count)
 }
 
-/// Puts each piece into its row.
+/// Puts each piece into the row of its block.
 fn put_all<K: Kernel, A: Allocator>(
     kernel: &K,
     n: u64,
@@ -94,7 +94,7 @@ fn put_all<K: Kernel, A: Allocator>(
     }
 }
 
-/// Puts a piece, whose leaf was missing, into its row.
+/// Puts a piece into the row of its block, which was missing.
 fn put<K: Kernel, A: Allocator>(
     kernel: &K,
     n: u64,
@@ -117,7 +117,7 @@ fn put<K: Kernel, A: Allocator>(
     table[(first / block) as usize] = items;
 }
 
-/// The items of all rows, one row after the other. No row's are missing.
+/// Returns the items of all rows, one row after the other. No row is missing.
 fn join<K: Kernel, A: Allocator + Clone>(
     alloc: &A,
     kernel: &K,
@@ -138,7 +138,7 @@ fn join<K: Kernel, A: Allocator + Clone>(
     Ok(joined)
 }
 
-/// Moves all items at once to the end of a list that has room.
+/// Moves all items at once to the end of a list that has room for them.
 fn append<I: Drop, A: Allocator>(joined: &mut Vec<I, A>, mut items: Vec<I, A>)
     requires { vec_len joined.old + vec_len items ≤ vec_capacity joined.old }
     ensures items { joined.new.items ≡ joined.old.items ++ items.items }

@@ -1,10 +1,11 @@
-//! One cut of a range into blocks, by which a pool knows the range's jobs.
+//! The division of a range into blocks, as a type. The contracts of `range_job.rt` and
+//! `evaluation.rt` name it.
 
 use std::marker::Brand;
 
-/// One division of a range into blocks, which the types of its jobs name: how many places there
-/// are, how long a block is, and which barrier counts the leaves. So a job that a pool hands out,
-/// of which nothing is known but its type, fits the context that it is run in.
+/// One division of a range into blocks: how many places there are, how long a block is, and which
+/// barrier counts the leaves. The types of the range's jobs name it. So every job of such a type
+/// fits the context that it runs in, though nothing but its type is known.
 pub trait Division {
     ghost use Rattle.std.specs.Prelude.{ℕ};
     ghost use Rattle.pool_barrier.specs.Seated.{TableId};

@@ -1,4 +1,5 @@
-//! Evaluating a range on the workers of a pool.
+//! Evaluates a range on the workers of a pool. `parallel_for` is the file's only public call.
+//! `run_leaves` picks the rows of the pool, which must keep accounts (`proofs/Covering`).
 ghost use Rattle.std.specs.Prelude.{◌≡◌, ◌<◌, ◌≤◌, ◌↔◌, All, IfOk, IsErrOf};
 ghost use Rattle.pool_barrier.specs.Shares.{barrier_id, notices_of, IsShareOf, IsWaiterOf};
 ghost use Rattle.run_queue.specs.Bag.{SameBag};
@@ -22,14 +23,15 @@ use std::sync::Wait;
 use std::thread::Threads;
 use worker_pool::{NoGate, PoolFault, Setup, VecLists, with_counted_root};
 
-/// How many leaves a range has at most: each takes a notice of one barrier.
+/// The most leaves that a range can have: each takes a notice of one barrier.
 const MOST_LEAVES: u64 = MOST_NOTICES;
 
-/// The kernel's items at the places below `n`, in order.
+/// Returns the kernel's items at the places below `n`, in order.
 ///
-/// Places are worked out by blocks, each on some worker of a pool that the setup describes, which
-/// is opened for this call alone. No more workers are started than there are blocks, and none where
-/// there is only one. Where fewer are started than the setup has, each looks in the whole pool.
+/// The places are computed in blocks, each by some worker of a pool that the setup describes. The
+/// pool is opened for this call alone. It starts at most as many workers as there are blocks, and
+/// none for one block. If it starts fewer workers than the setup has, each looks for jobs in the
+/// whole pool.
 pub fn parallel_for<RT, K, A>(
     rt: &RT,
     alloc: A,
@@ -52,10 +54,10 @@ where
     ensures bad_partition { IsErrOf result (ForFault.Pool PoolFault.BadPartition)
         ↔ (IsBlockLength n block × IsPoolSize setup.now.workers
         × AreNoPartitions setup.now.workers setup.now.partitions.items) }
-    // Want of memory for a pool is answered as want of memory.
+    // If the pool runs out of memory, the fault is `NoMemory`.
     ensures no_other { IsErrOf result (ForFault.Pool PoolFault.NoMemory) → ⊥ }
 
-    // No place takes no memory.
+    // A range without places allocates nothing.
     ensures no_memory { IsErrOf result ForFault.NoMemory → 0 < n }
 {
     if block == 0 || blocks(n, block) > MOST_LEAVES {
@@ -73,7 +75,7 @@ where
     Ok(fill_leaves(rt, &alloc, setup, kernel, n, block)?)
 }
 
-/// The items of several leaves, by no more workers than there are leaves.
+/// Returns the items of several leaves. It starts at most as many workers as there are leaves.
 fn fill_leaves<RT, K, A>(
     rt: &RT,
     alloc: &A,
@@ -103,7 +105,7 @@ where
     fill_counted(rt, alloc, &fewer, kernel, n, block)
 }
 
-/// The items of several leaves, which are counted by a barrier of their own.
+/// Returns the items of several leaves, which a barrier of their own counts.
 fn fill_counted<RT, K, A>(
     rt: &RT,
     alloc: &A,
@@ -126,7 +128,7 @@ where
     fill_range::<Brand, RT, &K, A>(rt, alloc, setup, kernel, range)
 }
 
-// The places below n, which are cut into blocks, and a barrier with a notice for each block.
+// The places below n, cut into blocks, and a barrier with a notice for each block.
 #[derive(Drop)]
 struct CountedRange<A: Allocator> {
     n: u64,
@@ -142,6 +144,7 @@ struct CountedRange<A: Allocator> {
 }
 
 impl<A: Allocator> CountedRange<A> {
+    /// Opens a barrier for the blocks of `n` places.
     fn of(alloc: A, n: u64, block: u64) -> Result<CountedRange<A>, AllocError>
         requires any { 0 < n }
         requires blocks { IsBlockLength n block }
@@ -161,7 +164,7 @@ impl<A: Allocator> CountedRange<A> {
     }
 }
 
-/// The items of the range, whose leaves are jobs of a pool.
+/// Returns the items of the range, whose leaves are jobs of a pool.
 fn fill_range<D, RT, K, A>(
     rt: &RT,
     alloc: &A,
@@ -193,7 +196,8 @@ where
     collect(alloc, &ctx.kernel, n, block, pieces)
 }
 
-/// The pieces of all leaves of a range. The caller sleeps until they have run.
+/// Returns the pieces of all leaves of a range. The calling thread sleeps until the leaves have
+/// run.
 fn run_leaves<D, RT, K, A>(
     rt: &RT,
     alloc: &A,
@@ -227,7 +231,7 @@ where
             ctx.barrier.wait(rt, &mut waiter);
         },
     );
-    // The setup was checked, so that a pool can only want memory.
+    // The setup was checked, so the pool's only fault can be that it ran out of memory.
     let Ok(closed) = closed else {
         return Err(AllocError);
     };

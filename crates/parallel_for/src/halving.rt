@@ -1,10 +1,11 @@
-//! How a range is cut into blocks.
+//! How a range is cut into blocks. `specs/Leaves` has the same arithmetic, and the jobs, the
+//! barrier and the collector all rest on it.
 ghost use Rattle.std.specs.Prelude.{◌≡◌, ◌+◌, ◌-◌, ◌<◌, ◌≤◌, ◌++◌, ◌↔◌, IfOk, IfSome};
 ghost use Rattle.parallel_for.specs.Leaves.{blocks_of, leaves_of, middle};
 
 use std::alloc::{AllocError, Allocator};
 
-/// How many blocks `n` places have, the last one cut where it has to be.
+/// Returns how many blocks `n` places have. The last block may be shorter.
 pub fn blocks(n: u64, block: u64) -> u64
     requires { 0 < block }
     ensures { result ≡ blocks_of n block }
@@ -12,8 +13,8 @@ pub fn blocks(n: u64, block: u64) -> u64
     n.div_ceil(block)
 }
 
-/// Where the range is cut in two, or `None` for a leaf. Both parts have whole blocks but for the
-/// last one, so the leaves of the range are those of its parts.
+/// Returns the place at which the range is cut in two, or `None` if it is a leaf. The lower part
+/// has whole blocks only, so the leaves of the range are the leaves of both parts.
 pub fn halve(first: u64, last: u64, block: u64) -> Option<u64>
     requires some { 0 < block }
     requires order { first ≤ last }
@@ -31,7 +32,7 @@ pub fn halve(first: u64, last: u64, block: u64) -> Option<u64>
     Some(first + ((last - first) / 2).div_ceil(block) * block)
 }
 
-/// The blocks of `n` places, each as its first place and the one after its last, in order.
+/// Returns the blocks of `n` places in order, each as its first place and the place after its last.
 pub fn leaves<A: Allocator>(alloc: A, n: u64, block: u64) -> Result<Vec<(u64, u64), A>, AllocError>
     requires { 0 < block }
     ensures { IfOk result (λ list. list.items ≡ leaves_of 0 n block) }

@@ -1,11 +1,12 @@
-//! What a caller hands over: how the items of a range are worked out.
+//! The kernel that a caller hands over: how the items of a range are computed. Kernels stand in
+//! `uses`, `loop_tests`, `memory_tests` and `tensor_reduce`.
 
 ghost use Rattle.std.specs.Prelude.{◌≤◌, IfOk};
 ghost use Rattle.parallel_for.specs.Items.{AreItems};
 
 use std::alloc::{AllocError, Allocator};
 
-/// What works out the items of a range, at the places below its size.
+/// A kernel, which computes the items of a range at the places below its size.
 pub trait Kernel {
     ghost use Rattle.std.specs.Prelude.{ℕ};
 
@@ -15,7 +16,7 @@ pub trait Kernel {
 
     ghost item_at: { Self → ℕ → Self.Item };
 
-    /// The items at the places from `first` to before `last`.
+    /// Computes the items at the places in `[first, last)`, in order.
     fn fill<A: Allocator>(
         &self,
         alloc: A,

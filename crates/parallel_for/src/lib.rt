@@ -1,9 +1,5 @@
-//! Evaluates a range of places by blocks, on the workers of a pool.
-//!
-//! The halving is that of Eigen's `TensorDeviceThreadPool.h`: a range longer than a block is cut in
-//! two at a whole block, its upper part goes to the pool as a job of its own, and what stays is cut
-//! on. A range of at most a block is a leaf, whose items a `Kernel` works out. A barrier counts the
-//! leaves, so the one that asked sleeps until all are done.
+//! Evaluates a range of places by blocks, on the workers of a pool. README.md has a picture.
+//! `tensor_reduce` runs its steps by this loop, so its contract and its costs reach the program.
 #![tactic(auto)]
 
 mod collector;

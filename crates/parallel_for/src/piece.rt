@@ -1,8 +1,9 @@
-//! The items of one leaf, as a worker hands them in.
+//! The items of one leaf, as a worker hands them in. `range_job.rt` makes pieces, and
+//! `collector.rt` takes them.
 
 use std::alloc::{Allocator, Global};
 
-/// The items at the places from `first` to before `last`, as a leaf gives them.
+/// The items at the places in `[first, last)`, which are one leaf.
 #[derive(Debug, Drop)]
 pub struct Piece<I, A: Allocator = Global> {
     pub first: u64,

@@ -1,4 +1,5 @@
-//! A range of places as a job of a pool.
+//! A range of places as a job of a pool. Its law (`specs/Steps`) is the one from which
+//! `proofs/Covering` shows that the pieces cover the range once.
 ghost use Rattle.std.specs.Prelude.{◌≡◌, ◌≤◌, ◌<◌, ◌-◌, ◌+◌, ℕ, IfOk};
 ghost use Rattle.pool_barrier.specs.Shares.{share_id, barrier_id, notices_of, given_of};
 ghost use Rattle.pool_barrier.specs.Shares.{IsShareOf};
@@ -14,7 +15,8 @@ use std::alloc::{AllocError, Allocator, Global};
 use std::marker::PhantomData;
 use worker_pool::{Job, Progress};
 
-/// What the jobs of one division share.
+/// The context that all jobs of one division share: the kernel, the barrier and the length of a
+/// block.
 #[derive(Drop)]
 pub struct RangeContext<K: Kernel + Drop, D: Division, A: Allocator = Global> {
     pub(crate) kernel: K,
@@ -27,7 +29,7 @@ pub struct RangeContext<K: Kernel + Drop, D: Division, A: Allocator = Global> {
     ghost some: { 0 < block },
 }
 
-/// The places from `first` to before `last`, and a notice for each block of them.
+/// A job for the places in `[first, last)`, with a notice for each of their blocks.
 #[derive(Drop)]
 pub struct RangeJob<K: Kernel, D: Division, A: Allocator = Global> {
     first: u64,
@@ -41,6 +43,7 @@ pub struct RangeJob<K: Kernel, D: Division, A: Allocator = Global> {
 }
 
 impl<K: Kernel + Drop, D: Division, A: Allocator> RangeContext<K, D, A> {
+    /// Returns the context of a division's jobs.
     pub(crate) fn new(kernel: K, barrier: Barrier<A>, block: u64) -> RangeContext<K, D, A>
         requires size { K.size kernel ≡ D.size }
         requires barrier { barrier_id barrier ≡ D.barrier }
@@ -57,7 +60,8 @@ impl<K: Kernel + Drop, D: Division, A: Allocator> RangeContext<K, D, A> {
         }
     }
 
-    /// Works a leaf out and counts it, where there was no memory for it too: nobody waits for it.
+    /// Computes a leaf, and gives its notice. The notice is given even if the leaf ran out of
+    /// memory, so that the caller's wait ends.
     fn leaf(
         &self,
         alloc: A,
@@ -85,7 +89,7 @@ impl<K: Kernel + Drop, D: Division, A: Allocator> RangeContext<K, D, A> {
 }
 
 impl<K: Kernel, D: Division, A: Allocator> RangeJob<K, D, A> {
-    /// All places below `n` as one job.
+    /// Returns one job for all places below `n`.
     pub(crate) fn root(n: u64, share: Share) -> RangeJob<K, D, A>
         requires some { 0 < n }
         requires inside { n ≤ D.size }
@@ -103,14 +107,14 @@ impl<K: Kernel, D: Division, A: Allocator> RangeJob<K, D, A> {
     }
 }
 
-// A step forks the upper part of the range where it is longer than a block, and else works the
-// range out and notifies the barrier.
+// A step forks the upper part of the range if it is longer than a block. Otherwise it computes the
+// range and gives its notice.
 impl<K: Kernel + Drop, D: Division, A: Allocator> Job<A> for RangeJob<K, D, A> {
     type Ctx = RangeContext<K, D, A>;
 
     type Out = Piece<K::Item, A>;
 
-    /// The share, whose notices are all given.
+    /// The job's share, whose notices were all given.
     type Abandoned = Share;
 
     ghost weight_of = { λ job. job.last - job.first };
@@ -121,7 +125,7 @@ impl<K: Kernel + Drop, D: Division, A: Allocator> Job<A> for RangeJob<K, D, A> {
         (λ piece. IsLeaf (K.item_at context.kernel) (job.first, job.last)
         (piece.first, piece.last) piece.items.items D.block) };
 
-    // One notice for each block of the range.
+    // An abandoned job gives one notice for each block of its range.
     ghost abandons = { λ _ job share.
         GaveAll (blocks_of (job.last - job.first) D.block) job.share share };
 
@@ -167,7 +171,7 @@ impl<K: Kernel + Drop, D: Division, A: Allocator> Job<A> for RangeJob<K, D, A> {
     }
 }
 
-/// Gives all notices that are left.
+/// Gives all notices that the share still has.
 fn give_all<A: Allocator>(barrier: &Barrier<A>, share: &mut Share)
     requires { IsShareOf barrier.now share.old }
     ensures of { IsShareOf barrier.now share.new }

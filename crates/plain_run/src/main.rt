@@ -1,6 +1,6 @@
-//! Answers one request of standard input by the plain evaluation of its expression, on one thread:
-//! a line of its tensor with status 0, or of its fault with status 1. So tests/test_refusals.py refuses the
-//! memory of what is below plans and pools.
+//! Answers one request of standard input by the plain evaluation of its expression, on one thread.
+//! Prints the tensor with status 0, or the fault with status 1. tests/test_refusals.py refuses each
+//! of its allocations in turn, to test the evaluation without plans and pools.
 #![tactic(auto)]
 
 use expr_reader::{Fault, read_request};
@@ -10,7 +10,7 @@ use std::io::Read;
 use std::process::ExitCode;
 use tensor_ops::{Tensor, eval_plain};
 
-/// The tensor of a text's request. The workers and the block that it names aren't used.
+/// Returns the tensor of a request text. The request's workers and block size are not used.
 fn tensor_of(alloc: Global, text: &[u8]) -> Result<Tensor<'static>, Fault> {
     let request = read_request(alloc, text)?;
     match eval_plain(alloc, &request.expr, &request.inputs) {

@@ -151,7 +151,7 @@ flag-le-waiter (Waits Fresh) = omega arith
 flag-le-waiter (Waits Flagged) = omega arith
 flag-le-waiter (Waits Done) = omega arith
 
--- the one waiter's flag is the only one
+-- the waiter's flag is the only one, since there is one waiter
 total-flag : (count : ℕ) (s : BarrierState) (id : ℕ) (phase : Phase)
     → IsCounted count s
     → get_elem? s.views id ≡ some (Waits phase)

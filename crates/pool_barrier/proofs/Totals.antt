@@ -40,7 +40,7 @@ total_mono f g le (x ∷ xs) =
     let rest = total_mono f g le xs in
     omega arith
 
--- the same of all views but one
+-- the totals of all views but one
 pub total_mono_but : (f g : View → ℕ) → ((v : View) → f v ≤ g v)
     → (views : List View) (id : ℕ) (v : View)
     → get_elem? views id ≡ some v

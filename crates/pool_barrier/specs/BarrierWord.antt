@@ -1,4 +1,4 @@
--- The barrier word, and the rule that keeps it.
+-- The barrier word, and the rule of a barrier's table.
 use Rattle.std.specs.Prelude.{◌≡◌, ℕ, ◌+◌, ◌*◌, ◌≤◌, List, [], ◌∷◌, length, slice_index, Contains}
 use Rattle.atomic_table.specs.Table.{State}
 use Rattle.pool_barrier.specs.declared.rule.TheConstants.{WORDS, STATE}
@@ -8,20 +8,20 @@ use Rattle.pool_barrier.specs.declared.view.View.TheVariants.{Waits}
 use Rattle.pool_barrier.specs.Limits.{most_notices}
 use Rattle.pool_barrier.specs.Views.{notices_in, given_in, waiter_in, flag_in}
 
--- the words of a barrier's table, and what each of its seats knows
+-- a state of a barrier's table: its words, and what each of its seats knows
 abbrev pub BarrierState : Type 0
 BarrierState = State (Unit {0}) View
 
--- f of each view, added up
+-- the sum of f over the views
 abbrev pub total : (View → ℕ) → List View → ℕ
 total f [] = 0
 total f (view ∷ views) = f view + total f views
 
--- twice the notices left over all shares, and 1 where the waiter has set its flag
+-- twice the number of notices left over all shares, plus 1 if the waiter has set its flag
 abbrev pub barrier_word : List View → ℕ
 barrier_word views = 2 * total notices_in views + total flag_in views
 
--- the state is one of a barrier that was made with so many notices
+-- the state of a barrier that was made with `count` notices
 pub record IsCounted (count : ℕ) (s : BarrierState) : Type 0 where
   pub room : length s.words ≡ WORDS
   pub word : slice_index s.words STATE ≡ barrier_word s.views

@@ -1,4 +1,4 @@
--- What holds in every state that a barrier's rule allows.
+-- The laws of a barrier: what holds in every state that its rule allows.
 use Rattle.std.specs.Prelude.{◌≡◌, ℕ, slice_index, Contains, All}
 use Rattle.pool_barrier.specs.declared.rule.TheConstants.{STATE}
 use Rattle.pool_barrier.specs.declared.view.Phase.TheVariants.{Done}
@@ -6,7 +6,7 @@ use Rattle.pool_barrier.specs.declared.view.View.TheVariants.{Waits}
 use Rattle.pool_barrier.specs.Views.{notices_in, given_in}
 use Rattle.pool_barrier.specs.BarrierWord.{BarrierState, total, barrier_word}
 
--- a rule for barriers, by the number of notices that they were made with
+-- a rule for barriers, by the number of notices with which they were made
 abbrev Rule : Type 1
 Rule = ℕ → BarrierState → Type 0
 
@@ -16,13 +16,13 @@ WordIsBarrierWord holds =
     (count : ℕ) (s : BarrierState) → holds count s
     → slice_index s.words STATE ≡ barrier_word s.views
 
--- where the waiter is done no seat has a notice left
+-- once the waiter is done, no seat has a notice left
 abbrev pub NoNoticeIsLeft : Rule → Type 0
 NoNoticeIsLeft holds =
     (count : ℕ) (s : BarrierState) → holds count s → Contains s.views (Waits Done)
     → All (λ view. notices_in view ≡ 0) s.views
 
--- where the waiter is done the seats have given as many notices as the barrier was made with
+-- once the waiter is done, the seats have given all notices with which the barrier was made
 abbrev pub AllNoticesAreGiven : Rule → Type 0
 AllNoticesAreGiven holds =
     (count : ℕ) (s : BarrierState) → holds count s → Contains s.views (Waits Done)

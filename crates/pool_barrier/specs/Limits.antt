@@ -1,4 +1,4 @@
--- What a barrier may have at most.
+-- The limit of a barrier.
 use Rattle.std.specs.Prelude.{ℕ}
 
 -- the most notices of one barrier

@@ -1,4 +1,4 @@
--- What contracts say of shares and waiters.
+-- The parts of barriers, shares and waiters that contracts name.
 use Rattle.std.specs.Prelude.{◌≡◌, ℕ}
 use Rattle.atomic_table.specs.Seated.{TableId}
 use Rattle.pool_barrier.specs.declared.view.Phase.TheVariants.{Fresh, Done}
@@ -16,11 +16,11 @@ notices_of share = notices_in share.seat.me.0
 abbrev pub given_of : Share → ℕ
 given_of share = given_in share.seat.me.0
 
--- which barrier's share it is
+-- the barrier to which the share belongs
 abbrev pub share_id : Share → TableId
 share_id share = share.seat.table_id
 
--- which barrier's waiter it is
+-- the barrier to which the waiter belongs
 abbrev pub waiter_id : Waiter → TableId
 waiter_id waiter = waiter.seat.table_id
 
@@ -33,11 +33,11 @@ abbrev pub IsDone : Waiter → Type 0
 IsDone waiter = waiter.seat.me.0 ≡ Waits Done
 
 module _ {A : Type 0} where
-  -- the notices that a barrier was made with
+  -- the number of notices with which the barrier was made
   abbrev pub count_of : Barrier A → ℕ
   count_of barrier = barrier.table.shared.key
 
-  -- which barrier it is
+  -- what distinguishes this barrier from others
   abbrev pub barrier_id : Barrier A → TableId
   barrier_id barrier = barrier.table.shared.table_id
 

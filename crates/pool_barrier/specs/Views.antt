@@ -1,4 +1,4 @@
--- What the seats at a barrier's table know, and how each step changes it.
+-- The views of the seats at a barrier's table, and how each step changes them.
 use Rattle.std.specs.Prelude.{◌≡◌, ℕ, ◌+◌, ◌-◌, ◌<◌, ◌^◌, nat_lt, if◌then◌else◌}
 use Rattle.atomic_table.specs.Table.{Me, Step}
 use Rattle.pool_barrier.specs.declared.rule.TheConstants.{STATE}
@@ -7,19 +7,19 @@ use Rattle.pool_barrier.specs.declared.view.Phase.TheVariants.{Fresh, Flagged, D
 use Rattle.pool_barrier.specs.declared.view.View.{View}
 use Rattle.pool_barrier.specs.declared.view.View.TheVariants.{Whole, Gives, Waits}
 
--- the notices that a seat has left to give
+-- the number of notices that a seat has left to give
 abbrev pub notices_in : View → ℕ
 notices_in (Whole count) = count
 notices_in (Gives notices given) = notices
 notices_in (Waits phase) = 0
 
--- the notices that a seat has given
+-- the number of notices that a seat has given
 abbrev pub given_in : View → ℕ
 given_in (Whole count) = 0
 given_in (Gives notices given) = given
 given_in (Waits phase) = 0
 
--- 1 for the seat that may wait
+-- 1 for the seat that may wait, else 0
 abbrev pub waiter_in : View → ℕ
 waiter_in (Whole count) = 1
 waiter_in (Gives notices given) = 0
@@ -31,31 +31,31 @@ phase_in (Whole count) = Fresh
 phase_in (Gives notices given) = Fresh
 phase_in (Waits phase) = phase
 
--- 1 where the flag is set
+-- 1 if the waiter has set its flag in this phase, else 0
 abbrev pub flag_of : Phase → ℕ
 flag_of Fresh = 0
 flag_of Flagged = 1
 flag_of Done = 1
 
--- 1 for the waiter that has set its flag
+-- 1 for the waiter if it has set its flag, else 0
 abbrev pub flag_in : View → ℕ
 flag_in (Whole count) = 0
 flag_in (Gives notices given) = 0
 flag_in (Waits phase) = flag_of phase
 
--- the first seat becomes the waiter's
+-- the first seat's view after it became the waiter
 abbrev pub waiter_of_whole : View → View
 waiter_of_whole whole = Waits Fresh
 
--- the first share has all notices
+-- the first share's view: it has all notices
 abbrev pub share_of_whole : View → View
 share_of_whole whole = Gives (notices_in whole) 0
 
--- what is left of a share when k notices move to another
+-- the share after k of its notices moved to another share
 abbrev pub after_split : ℕ → View → View
 after_split k share = Gives (notices_in share - k) (given_in share)
 
--- the share that the k notices move to
+-- the new share, to which the k notices moved
 abbrev pub split_off : ℕ → View → View
 split_off k share = Gives k 0
 
@@ -67,20 +67,20 @@ after_notice share = Gives (notices_in share - 1) (given_in share + 1)
 abbrev pub after_flag : ℕ → View
 after_flag found = Waits (if nat_lt found 2 then Done else Flagged)
 
--- a seat's view, and the slots that it holds: none
+-- a seat's view, and the slots that the seat has: none
 abbrev pub Sat : Type 0
 Sat = Me (Unit {0}) View
 
--- a fact about a step: its operands, the seat before it, the number that it found, the seat after
+-- what a step tells: its operands, the seat before it, the number that it found, the seat after it
 abbrev pub Told : Type 1
 Told = Step (Unit {0}) → Sat → ℕ → Sat → Type 0
 
--- what a notice tells: it is a step on the barrier's word
+-- what the step of a notice tells: it is on the barrier's word
 abbrev pub gives_one : Told
 gives_one step before found after =
     (step.word ≡ STATE) × (after ≡ (after_notice before.0, before.1))
 
--- what setting the flag tells: it is a step on the barrier's word
+-- what the step that sets the flag tells: it is on the barrier's word
 abbrev pub sets_flag : Told
 sets_flag step before found after =
     (step.word ≡ STATE) × (after ≡ (after_flag found, before.1)) × (found < 2 ^ 32)

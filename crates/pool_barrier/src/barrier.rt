@@ -1,4 +1,5 @@
-//! The barrier.
+//! `Barrier`: its calls, each a step on one word. `specs/Shares.antt` names what their contracts
+//! say, and `notification.rt` forwards to them.
 ghost use Rattle.std.specs.Prelude.{◌≡◌, ◌+◌, ◌<◌, ◌≤◌, ◌↔◌, IfOk, IsErrOf};
 ghost use Rattle.pool_barrier.specs.declared.rule.TheConstants.{WORDS};
 ghost use Rattle.pool_barrier.specs.Limits.{most_notices};
@@ -13,16 +14,16 @@ use std::alloc::{AllocError, Allocator, Global};
 use std::marker::Brand;
 use std::sync::Wait;
 
-/// What one notice adds to the word.
+/// What one notice left adds to the word.
 const NOTICE: u64 = 2;
 
 /// The waiter's flag, which is the word's lowest bit.
 const FLAG: u64 = 1;
 
-/// A number of notices, which are given once each, and a waiter for all of them.
+/// A number of notices, each given once, and a waiter for all of them.
 ///
-/// Its word is twice the notices left, plus 1 where the waiter has set its flag, as in Eigen's
-/// `Barrier.h`.
+/// The word is twice the number of notices left, plus 1 if the waiter has set its flag, as in
+/// Eigen's `Barrier.h`.
 #[derive(Drop)]
 pub struct Barrier<A: Allocator = Global> {
     table: Table<(), View, u64, Law, A>,
@@ -33,7 +34,8 @@ impl<A: Allocator> Barrier<A> {
     ghost use Rattle.pool_barrier.specs.Shares.{notices_of, given_of, count_of, IsFresh, IsDone};
     ghost use Rattle.pool_barrier.specs.Shares.{IsShareOf, IsWaiterOf};
 
-    /// A barrier of `count` notices, its waiter, and a share that has all of them.
+    /// Returns a barrier of `count` notices, its waiter, and a share of all notices. Too many
+    /// notices are reported before an allocation fails.
     pub fn new(alloc: A, count: u64) -> Result<(Barrier<A>, Waiter, Share), BarrierFault>
         ensures too_large { IsErrOf result BarrierFault.TooLarge ↔ (most_notices < count) }
         ensures barrier { IfOk result (λ made. count_of made.0 ≡ count) }
@@ -49,7 +51,7 @@ impl<A: Allocator> Barrier<A> {
         Ok(Barrier::with_count(alloc, count)?)
     }
 
-    /// The same, for a count that fits.
+    /// Does what `new` does, for a count that is not too large.
     pub(crate) fn with_count(
         alloc: A,
         count: u64,
@@ -73,7 +75,7 @@ impl<A: Allocator> Barrier<A> {
         Ok((Barrier { table }, Waiter { seat }, share))
     }
 
-    /// Moves `k` notices to a share of their own.
+    /// Moves `k` notices to a new share, and returns it.
     pub fn split(&self, share: &mut Share, k: u64) -> Share
         requires of { IsShareOf self.now share.old }
         requires room { k ≤ notices_of share.old }
@@ -85,6 +87,7 @@ impl<A: Allocator> Barrier<A> {
         self.split_by::<Brand>(share, k)
     }
 
+    /// Moves `k` notices to a new share; the type `K` names `k` to the play.
     fn split_by<K: Amount>(&self, share: &mut Share, k: u64) -> Share
         requires amount { K.amount ≡ k }
         requires of { IsShareOf self.now share.old }
@@ -99,7 +102,8 @@ impl<A: Allocator> Barrier<A> {
         Share { seat, notices: k }
     }
 
-    /// Gives one notice, and wakes the waiter where it was the last and the waiter sleeps.
+    /// Gives one notice. Wakes the waiter if this was the last notice and the waiter sleeps. Does
+    /// not wait.
     pub fn notify(&self, share: &mut Share)
         requires of { IsShareOf self.now share.old }
         requires left { 0 < notices_of share.old }
@@ -117,7 +121,8 @@ impl<A: Allocator> Barrier<A> {
         }
     }
 
-    /// Returns once no share of the barrier has a notice left. It may be called again.
+    /// Waits until no share of the barrier has a notice left. It may be called again, and then
+    /// returns at once.
     pub fn wait<R: Wait>(&self, rt: &R, waiter: &mut Waiter)
         requires { IsWaiterOf self.now waiter.old }
         ensures of { IsWaiterOf self.now waiter.new }

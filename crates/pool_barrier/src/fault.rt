@@ -1,12 +1,14 @@
-//! Why a barrier was not made.
+//! Why a barrier could not be made. pool_part_tests fix the numbers of these faults.
 use std::alloc::AllocError;
 use thiserror::Error;
 
-/// Why a barrier was not made.
+/// Why a barrier could not be made.
 #[derive(Clone, Copy, Debug, PartialEq, Eq, Error)]
 pub enum BarrierFault {
+    /// More than `MOST_NOTICES` notices were asked for. No memory was asked for.
     #[error("a barrier takes at most 2147483647 notices")]
     TooLarge = 1,
+    /// An allocation failed.
     #[error("no memory for a barrier")]
     NoMemory = 2,
 }

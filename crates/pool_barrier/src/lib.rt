@@ -1,9 +1,11 @@
-//! Barriers: a number of notices is given by any threads, and one waiter sleeps until all are
-//! given.
+//! Barriers: any threads give a number of notices, and one waiter sleeps until all are given.
 //!
-//! The shape is that of Eigen's `Barrier.h`. The right to notify is a `Share` of notices here,
-//! which is split and moved to whoever gives them, so that no barrier gets more notices than it
-//! waits for.
+//! The word and its steps follow Eigen's `Barrier.h`. The right to notify is a `Share` of notices
+//! here, which is split and moved to the threads that give them. So no barrier gets more notices
+//! than it waits for.
+//!
+//! parallel_for waits on these barriers. A change to the word or to a step is a change to the rule
+//! (`specs/BarrierWord.antt`).
 #![tactic(auto)]
 
 mod barrier;

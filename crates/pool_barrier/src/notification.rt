@@ -1,4 +1,4 @@
-//! A barrier of one notice.
+//! `Notification`: a barrier of one notice. Each call is a call of `barrier.rt`.
 ghost use Rattle.std.specs.Prelude.{◌≡◌, ◌+◌, ◌<◌, IfOk};
 
 use crate::barrier::Barrier;
@@ -17,7 +17,8 @@ impl<A: Allocator> Notification<A> {
     ghost use Rattle.pool_barrier.specs.Shares.{IsShareOf, IsWaiterOf};
     ghost use Rattle.pool_barrier.specs.Notifications.{barrier_of};
 
-    /// A notification, its waiter, and a share that has its one notice.
+    /// Returns a notification, its waiter, and a share that has the one notice. Fails only if an
+    /// allocation fails.
     pub fn new(alloc: A) -> Result<(Notification<A>, Waiter, Share), AllocError>
         ensures barrier { IfOk result (λ made. count_of (barrier_of made.0) ≡ 1) }
         ensures waiter { IfOk result (λ made. IsWaiterOf (barrier_of made.0) made.1) }
@@ -30,7 +31,7 @@ impl<A: Allocator> Notification<A> {
         Ok((Notification { barrier }, waiter, share))
     }
 
-    /// Gives the notice, and wakes the waiter where it sleeps.
+    /// Gives the notice, and wakes the waiter if it sleeps.
     pub fn notify(&self, share: &mut Share)
         requires of { IsShareOf (barrier_of self.now) share.old }
         requires left { 0 < notices_of share.old }
@@ -41,7 +42,7 @@ impl<A: Allocator> Notification<A> {
         self.barrier.notify(share);
     }
 
-    /// Returns once the notice was given. It may be called again.
+    /// Waits until the notice was given. It may be called again, and then returns at once.
     pub fn wait<R: Wait>(&self, rt: &R, waiter: &mut Waiter)
         requires { IsWaiterOf (barrier_of self.now) waiter.old }
         ensures of { IsWaiterOf (barrier_of self.now) waiter.new }

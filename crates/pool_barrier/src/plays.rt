@@ -1,8 +1,9 @@
-//! What the steps on a barrier's word tell.
+//! The plays of a barrier: what each step on its word tells the seat that makes it.
+//! `specs/Views.antt` defines them.
 use crate::view::View;
 use atomic_table::Play;
 
-/// One notice is given.
+/// The play of a notice.
 pub struct GivesOne;
 
 impl Play<(), View> for GivesOne {
@@ -11,7 +12,7 @@ impl Play<(), View> for GivesOne {
     ghost then = { gives_one };
 }
 
-/// The waiter's flag is set, and the word is seen.
+/// The play of setting the waiter's flag, which also reads the word.
 pub struct SetsFlag;
 
 impl Play<(), View> for SetsFlag {

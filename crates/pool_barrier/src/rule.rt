@@ -1,22 +1,23 @@
-//! The rule of a barrier's table, and how its views are cut.
+//! The rule of a barrier's table, and how its views are split. `specs/BarrierWord.antt` has the
+//! rule. The calls and laws of the crate rest on it.
 ghost use Rattle.std.specs.Prelude.{ℕ};
 
 use crate::view::View;
 use atomic_table::{Split, TableRule};
 use std::marker::{Brand, PhantomData};
 
-/// The most notices of one barrier: twice as many and the flag fill the 32 bits that a sleep
-/// compares.
+/// The most notices of one barrier. The word of a barrier with this many notices and the flag fills
+/// 32 bits, which is what a sleep compares.
 pub const MOST_NOTICES: u64 = 2_147_483_647;
 
-/// How many words a table has.
+/// How many words the table has: two cache lines.
 pub const WORDS: usize = 16;
 
-/// The place of the one word that is used. The cache line that it lies in has no memory of others,
-/// wherever the block begins.
+/// The place of the only word that is used. Its cache line has no other memory, wherever the block
+/// begins.
 pub const STATE: usize = 8;
 
-/// The word is the barrier word in every state of the table.
+/// The rule of a barrier's table: in every state the word is the barrier word.
 pub struct Law;
 
 impl TableRule<(), View, u64> for Law {
@@ -28,7 +29,7 @@ impl TableRule<(), View, u64> for Law {
     ghost first = { λ count. Whole count };
 }
 
-/// The first seat becomes the waiter's, and the new one has all notices.
+/// Splits the first seat: it becomes the waiter, and the new seat has all notices.
 pub struct CutsShare;
 
 impl Split<View> for CutsShare {
@@ -39,7 +40,7 @@ impl Split<View> for CutsShare {
     ghost right = { share_of_whole };
 }
 
-/// How many notices go with a split.
+/// How many notices a split moves.
 pub trait Amount {
     ghost amount: { ℕ };
 }

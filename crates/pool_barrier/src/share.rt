@@ -1,4 +1,5 @@
-//! The rights to a barrier's two sides.
+//! The rights to a barrier's two sides: `Share` to notify, and `Waiter` to wait.
+//! `specs/Shares.antt` names what contracts say of them.
 ghost use Rattle.std.specs.Prelude.{◌≡◌, []};
 ghost use Rattle.pool_barrier.specs.Views.{given_in, phase_in};
 ghost use Rattle.pool_barrier.specs.declared.view.View.TheVariants.{Gives, Waits};
@@ -6,7 +7,7 @@ ghost use Rattle.pool_barrier.specs.declared.view.View.TheVariants.{Gives, Waits
 use crate::view::View;
 use atomic_table::Seat;
 
-/// The right to give a number of notices of one barrier. It may cross threads.
+/// The right to give a number of notices of one barrier. It may move between threads.
 ///
 /// A share that is dropped with notices left keeps its barrier's waiter waiting forever.
 #[derive(Drop)]
@@ -20,7 +21,7 @@ pub struct Share {
 impl Share {
     ghost use Rattle.pool_barrier.specs.Shares.{notices_of};
 
-    /// How many notices it has left to give.
+    /// Returns how many notices the share has left to give.
     pub fn notices(&self) -> u64
         ensures { result ≡ notices_of self.now }
     {
@@ -28,7 +29,7 @@ impl Share {
     }
 }
 
-/// The right to wait for one barrier.
+/// The right to wait for one barrier. It may move between threads.
 #[derive(Drop)]
 pub struct Waiter {
     pub(crate) seat: Seat<(), View>,

@@ -1,21 +1,22 @@
-//! What the seats at a barrier's table know. No value of these types is made.
+//! The views of the seats at a barrier's table. No value of these types is ever made: contracts
+//! alone name them, by `specs/Views.antt`.
 
 /// How far a waiter has come.
 pub enum Phase {
-    /// It has not set its flag.
+    /// The waiter has not set its flag.
     Fresh,
-    /// It has set its flag, and found notices left.
+    /// The waiter has set its flag, and found notices left.
     Flagged,
-    /// It has set its flag, and found no notice left.
+    /// The waiter has set its flag, and found no notice left.
     Done,
 }
 
-/// What a seat knows.
+/// What a proof knows of a seat.
 pub enum View {
-    /// All notices and the right to wait, before either is handed out.
+    /// The first seat: all notices and the right to wait, before either is handed out.
     Whole(u64),
-    /// The notices that a share has left to give, and those that it has given.
+    /// A share: how many notices it has left to give, and how many it has given.
     Gives { notices: u64, given: u64 },
-    /// The waiter.
+    /// The waiter, and how far it has come.
     Waits(Phase),
 }

@@ -1,4 +1,4 @@
-//! Notices that are given, and waits for them.
+//! Tests of barriers: notices that are given, and waits for them.
 ghost use Rattle.pool_barrier.specs.Shares.{IsShareOf, IsWaiterOf, notices_of};
 ghost use Rattle.std.specs.Prelude.{◌≡◌};
 
@@ -9,14 +9,14 @@ use std::sync::Wait;
 use std::thread::{self, Threads};
 use std::time::{Clock, Duration};
 
-/// Notices of a barrier, and how many of them are split off.
+/// The number of a barrier's notices, and how many of them are split off into a second share.
 #[derive(Clone, Copy)]
 struct Split {
     notices: u64,
     moved: u64,
 }
 
-/// Splits on one thread, all of whose notices are given.
+/// Splits whose notices are all given on one thread.
 const GIVEN: &[Split] = &[
     Split {
         notices: 2,
@@ -28,14 +28,14 @@ const GIVEN: &[Split] = &[
     },
 ];
 
-/// The most notices, none of which is given.
+/// The most notices that a barrier can have, none of which is given.
 const MOST: Split = Split {
     notices: 2_147_483_647,
     moved: 0,
 };
 
-/// Splits whose notices two threads give so many milliseconds after their start: in the second one
-/// the waiter is given time to fall asleep before the first notice.
+/// Splits whose notices two threads give, and how many milliseconds after their start. In the
+/// second row the waiter has time to fall asleep before the first notice.
 const THREADED: &[(Split, u64)] = &[
     (
         Split {
@@ -53,7 +53,7 @@ const THREADED: &[(Split, u64)] = &[
     ),
 ];
 
-/// A barrier, its waiter, and its notices in two shares.
+/// Returns a barrier, its waiter, and its notices in two shares.
 fn dealt<R: Abort>(rt: &R, alloc: Global, split: Split) -> (Barrier, Waiter, Share, Share)
     ensures first { IsShareOf result.0 result.2 }
     ensures second { IsShareOf result.0 result.3 }
@@ -69,7 +69,7 @@ fn dealt<R: Abort>(rt: &R, alloc: Global, split: Split) -> (Barrier, Waiter, Sha
     (barrier, waiter, first, second)
 }
 
-/// Gives all notices of a share, and tells how many there were.
+/// Gives all notices of a share, and returns how many there were.
 fn give_all(barrier: &Barrier, mut share: Share) -> u64
     requires { IsShareOf barrier.now share }
 {
@@ -81,7 +81,7 @@ fn give_all(barrier: &Barrier, mut share: Share) -> u64
     given
 }
 
-/// Gives all notices of a share, a while later.
+/// Gives all notices of a share after a pause in milliseconds, and returns how many there were.
 fn give_late(clock: &impl Clock, pause: u64, barrier: &Barrier, share: Share) -> u64
     requires { IsShareOf barrier.now share }
 {
@@ -119,7 +119,8 @@ fn a_notification_that_was_notified(rt: HostRuntime) {
     notification.wait(&rt, &mut waiter);
 }
 
-/// Whether two threads were started, the notices of whose shares end the wait.
+/// Lets two threads give the notices of two shares, and waits for them. Returns whether both
+/// threads were started.
 fn waits_for_two<R: Threads + Wait + Clock + Abort + Sync>(
     rt: &R,
     alloc: Global,

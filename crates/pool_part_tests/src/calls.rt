@@ -1,5 +1,5 @@
-//! The calls of an owner's row of slots, and what they answer: what is told, or what a row of one
-//! thread answers, which is proved to be a list.
+//! Tests of the calls on an owner's row of slots. The expected results stand in a table, or come
+//! from a row of one thread (`Deque`), which is proved to be a list.
 ghost use Rattle.std.specs.Prelude.{◌≡◌};
 ghost use Rattle.run_queue.specs.SlotSeats.{table_of, number_in, rows_id, row_count_of};
 
@@ -12,10 +12,10 @@ use std::alloc::Global;
 use std::process::Abort;
 use std::sync::Wait;
 
-/// A call on a row, and what it answers.
+/// A call on a row, and its expected result.
 #[derive(Clone, Copy)]
 enum Call {
-    /// So many jobs, from 0 on, are pushed at the front, which has room for them.
+    /// Pushes the given number of jobs, from 0 on, at the front, which has room for them.
     Fills(u32),
     PushFront(u32, Result<(), u32>),
     PushBack(u32, Result<(), u32>),
@@ -24,7 +24,7 @@ enum Call {
     Len(usize),
 }
 
-/// Calls on a new row. So many jobs are left then.
+/// Calls on a new row, and how many jobs are left after them.
 struct Story {
     name: &'static str,
     calls: &'static [Call],
@@ -61,7 +61,7 @@ const STORIES: [Story; 2] = [
             Call::PopFront(Some(2)),
             Call::PopBack(Some(3)),
             Call::Len(1),
-            // The one that is left lies where both positions of a row of slots began.
+            // The job that is left lies where both positions of a row of slots began.
             Call::PopBack(Some(1)),
             Call::PopFront(None),
             Call::Len(0),
@@ -70,13 +70,14 @@ const STORIES: [Story; 2] = [
     },
 ];
 
-/// How many calls are drawn. In turn so many rather fill the row, until it is full, and so many rather
-/// empty it.
+/// The number of calls that are drawn.
 const DRAWS: u32 = 100_000;
 
+/// The number of calls in a phase. Phases that mostly fill the row, until it is full, alternate
+/// with phases that mostly empty it.
 const PHASE: u32 = 5_000;
 
-/// Whether the row of slots of this owner has room for so many jobs.
+/// Pushes jobs from 0 on, and returns whether the owner's row had room for all of them.
 fn fill_slots(rows: &SlotRows<u32>, owner: &mut SlotSeat<u32>, jobs: u32) -> bool
     requires of { table_of owner.old ≡ rows_id rows.now }
     requires row { row_count_of rows.now ≡ 1 }
@@ -91,7 +92,8 @@ fn fill_slots(rows: &SlotRows<u32>, owner: &mut SlotSeat<u32>, jobs: u32) -> boo
     has_room
 }
 
-/// Whether rows of slots answer the owner of the one row as the call says.
+/// Makes a call on rows of slots by the owner of the one row, and returns whether the result is as
+/// expected.
 fn slots_answer<R: Wait>(
     rt: &R,
     rows: &SlotRows<u32>,
@@ -114,7 +116,7 @@ fn slots_answer<R: Wait>(
     }
 }
 
-/// The owner of the one row makes the calls of a story.
+/// Makes the calls of a story by the owner of the one row.
 fn make_calls<R: Wait + Abort>(
     rt: &R,
     rows: &SlotRows<u32>,
@@ -147,8 +149,8 @@ fn tell_slots<R: Wait + Abort>(rt: &R, alloc: Global, story: &Story) {
     );
 }
 
-/// The call that a word picks, at a place where jobs are rather put in or rather taken out. It is to
-/// be answered as the row of one thread answers it.
+/// Returns the call that a word picks, in a phase that mostly fills the row or mostly empties it.
+/// The expected result comes from the row of one thread.
 fn call_of(row: &mut Deque<u32>, word: u32, fills: bool) -> Call {
     match word % 8 {
         0 => Call::PushFront(word, row.push_front(word)),
@@ -164,7 +166,7 @@ fn call_of(row: &mut Deque<u32>, word: u32, fills: bool) -> Call {
     }
 }
 
-/// The owner of the one row makes calls that are drawn.
+/// Makes calls that are drawn at random, by the owner of the one row.
 fn make_drawn<R: Wait + Abort>(
     rt: &R,
     row: &mut Deque<u32>,
@@ -184,7 +186,7 @@ fn make_drawn<R: Wait + Abort>(
     }
 }
 
-/// Makes drawn calls on a row of one thread and on a row of slots, and closes that.
+/// Makes drawn calls on a row of one thread and on a row of slots, and closes the latter.
 fn tell_drawn<R: Wait + Abort>(rt: &R, alloc: Global) {
     let Ok(mut row) = Deque::new(alloc) else {
         panic!(rt; "no row")

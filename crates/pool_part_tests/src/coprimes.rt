@@ -1,7 +1,8 @@
-//! The coprimes of a number.
+//! Tests of the coprimes of a number.
 
 use steal_walk::Coprimes;
 
+/// Numbers and their coprimes.
 const LISTS: &[(u32, &[u32])] = &[
     (6, &[1, 5]),
     (1, &[1]),

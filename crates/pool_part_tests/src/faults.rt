@@ -1,10 +1,11 @@
-//! The numbers and the texts of faults.
+//! Tests of the numbers and the texts of faults, on which callers may rely.
 
 use event_count::{CountFault, RowFault};
 use pool_barrier::BarrierFault;
 use run_queue::RowsFault;
 use steal_walk::PartitionFault;
 
+/// The numbers of faults, and the numbers that they must have.
 const NUMBERS: &[(u8, u8)] = &[
     (PartitionFault::Empty as u8, 1),
     (PartitionFault::OutOfPool as u8, 2),

@@ -1,5 +1,5 @@
-//! Tests of the pool's parts, each by its public calls: walks, rows, barriers, Worlds, event
-//! counts.
+//! Tests of the pool's parts by their public calls: walks, rows, barriers, Worlds, event counts.
+//! README.md says which table a new test is a row of.
 #![tactic(auto)]
 
 #[cfg(test)]

@@ -1,15 +1,16 @@
-//! Counts that are made and closed.
+//! Tests of event counts that are made and closed.
 
 use event_count::{CountFault, EventCount};
 
-/// Waiters and notifiers, and the fault of such a count.
+/// Numbers of waiters and notifiers, and the fault of a count of this size.
 const SIZES: &[(u16, u16, Option<CountFault>)] = &[
     (0, 0, None),
     (16_382, 1, None),
     (16_383, 1, Some(CountFault::TooManyWaiters)),
 ];
 
-/// The seats are numbered from 0 on, and such a count ends at one word.
+/// The seats of a new count are numbered from 0 on, and a count on which nothing was done is closed
+/// at one word.
 #[test]
 fn counts_are_made_and_closed(rt: HostRuntime) {
     for &(waiters, notifiers, fault) in SIZES {

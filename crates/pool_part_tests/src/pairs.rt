@@ -1,4 +1,5 @@
-//! Points of one waiter and one notifier, through the trait.
+//! Tests of wait points with one waiter and one notifier, through the trait `WaitPoint`. A new kind
+//! of point gets a line at the end.
 ghost use Rattle.std.specs.Prelude.{◌≡◌, ◌<◌, []};
 ghost use Rattle.event_word.specs.declared.phase.Phase.TheVariants.{Running, Pre};
 
@@ -9,10 +10,10 @@ use std::sync::Wait;
 use std::sync::atomic::{AtomicU64, Ordering};
 use std::thread::{self, Threads};
 
-/// How often the word goes to and fro.
+/// How often the word goes back and forth.
 const TURNS: u64 = 100_000;
 
-/// A point of one waiter and one notifier, with their seats.
+/// Returns a point of one waiter and one notifier, with their seats.
 fn pair<P: WaitPoint<Global>, R: Abort>(rt: &R, alloc: Global) -> (P, P::Seat, P::Seat)
     ensures waiters { P.waiter_count result.0 ≡ 1 }
     ensures seats { P.seat_count result.0 ≡ 2 }
@@ -35,7 +36,7 @@ fn pair<P: WaitPoint<Global>, R: Abort>(rt: &R, alloc: Global) -> (P, P::Seat, P
     (point, waiter, notifier)
 }
 
-/// Signals that are there before the sleep.
+/// Checks that a sleep consumes a signal that came before it.
 fn consumes_signals<P: WaitPoint<Global>, R: Wait + Abort>(rt: &R, alloc: Global) {
     let (point, mut waiter, mut notifier) = pair::<P, R>(rt, alloc);
     point.enter(rt, &mut waiter);
@@ -52,7 +53,7 @@ fn consumes_signals<P: WaitPoint<Global>, R: Wait + Abort>(rt: &R, alloc: Global
     assert!(rt; both && word == 0x3FFF);
 }
 
-/// Hands the word over, and sleeps until it is back.
+/// Hands the word over, and sleeps until it is back, in each turn.
 fn lead<P: WaitPoint<Global>, R: Wait + Abort>(
     rt: &R,
     there: &P,
@@ -78,7 +79,8 @@ fn lead<P: WaitPoint<Global>, R: Wait + Abort>(
     }
 }
 
-/// Sleeps until the word comes, and hands it back. It has entered before.
+/// Sleeps until the word comes, and hands it back, in each turn. The waiter has entered before the
+/// call.
 fn follow<P: WaitPoint<Global>, R: Wait + Abort>(
     rt: &R,
     here: &P,
@@ -105,7 +107,8 @@ fn follow<P: WaitPoint<Global>, R: Wait + Abort>(
     here.leave(rt, waiter);
 }
 
-/// Each turn of either side is one sleep, which one wake of the other ends.
+/// Hands a word back and forth between two threads. Each turn of a side is one sleep, which one
+/// wake of the other side ends.
 fn goes_to_and_fro<P: WaitPoint<Global> + Sync, R: Threads + Wait + Abort + Sync>(
     rt: &R,
     alloc: Global,
@@ -139,7 +142,7 @@ where
     assert!(rt; word.load(Ordering::SeqCst) == 2 * TURNS);
 }
 
-/// Tries a kind of point.
+/// Runs all checks on a kind of wait point.
 fn expect_point<P: WaitPoint<Global> + Sync, R: Threads + Wait + Abort + Sync>(
     rt: &R,
     alloc: Global,

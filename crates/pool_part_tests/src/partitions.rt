@@ -1,9 +1,9 @@
-//! Ranges of rows that are partitions, and those that are none.
+//! Tests of which ranges of rows are partitions.
 
 use steal_walk::{Partition, PartitionFault};
 
-/// Starts and limits in a pool of four, and their faults. The first one is told, also where there
-/// are both.
+/// Starts and limits in a pool of four rows, and their faults. If a range has both faults, the
+/// fault is `Empty`.
 const RANGES: &[(u32, u32, Option<PartitionFault>)] = &[
     (0, 0, Some(PartitionFault::Empty)),
     (2, 5, Some(PartitionFault::OutOfPool)),

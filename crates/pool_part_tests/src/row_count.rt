@@ -1,4 +1,4 @@
-//! Calls on counts with rows: credits, what a look at all rows answers, and stops.
+//! Tests of calls on counts with rows: credits, looks at all rows, and stops.
 ghost use Rattle.std.specs.Prelude.{◌≡◌, ◌<◌};
 ghost use Rattle.event_count.specs.Seats.{card_of, IsIdle, row_sizes_of, seats_of, IsSeatOf};
 ghost use Rattle.event_count.specs.Rows.Seats.{IsSilent};
@@ -7,7 +7,8 @@ use event_count::{Committed, PassAll, RowCount, RowSizes, Seat};
 use std::alloc::Global;
 use std::process::Abort;
 
-/// A count of one waiter and one notifier, of two rows, with a credit each.
+/// Returns a count with two rows, one waiter and one notifier, each with one credit, and the two
+/// seats.
 fn pair<R: Abort>(rt: &R, alloc: Global) -> (RowCount, Seat, Seat)
     ensures rows { (row_sizes_of result.0).rows ≡ 2 }
     ensures seats { seats_of result.0 ≡ 2 }
@@ -35,7 +36,8 @@ fn pair<R: Abort>(rt: &R, alloc: Global) -> (RowCount, Seat, Seat)
     (count, waiter, notifier)
 }
 
-/// A job takes the notifier's credit, its end gives the waiter one, and that is lent back.
+/// A job costs the notifier its credit. The job's end gives the waiter a credit, which is lent back
+/// to the notifier.
 #[test]
 fn a_credit_goes_round(rt: HostRuntime) {
     let (count, mut waiter, mut notifier) = pair(&rt, rt.alloc());
@@ -65,8 +67,8 @@ fn a_credit_goes_round(rt: HostRuntime) {
     assert!(rt; count.close(seats) == 0x3FFF);
 }
 
-/// One seat publishes jobs that another takes, which puts its credits into the bank. As many come out
-/// as went in, and so two are enough for any number of jobs. Nobody else has any then.
+/// One seat publishes jobs, and another takes them and puts its credits into the bank. As many
+/// credits come out of the bank as went in, so two credits suffice for any number of jobs.
 #[test]
 fn credits_flow_back(rt: HostRuntime) {
     let (count, mut waiter, mut notifier) = pair(&rt, rt.alloc());
@@ -91,7 +93,8 @@ fn credits_flow_back(rt: HostRuntime) {
     assert!(rt; count.withdraw(&mut notifier) == 1 && notifier.credits() == 2);
 }
 
-/// A waiter that has passed all takes the signal of a job that comes then, and finds the stop.
+/// A waiter has passed all rows when a job comes, and takes the signal of this job. Later it finds
+/// the stop.
 #[test]
 fn a_job_and_a_stop_behind_a_pass(rt: HostRuntime) {
     let (count, mut waiter, mut notifier) = pair(&rt, rt.alloc());

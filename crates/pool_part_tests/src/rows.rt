@@ -1,4 +1,5 @@
-//! Rows that threads share, through their trait: with a lock, of slots, and such as wake.
+//! Tests of rows that threads share, through the trait `Rows`: rows with a lock, rows of slots, and
+//! rows that wake workers. A new kind of rows gets a line at the end.
 ghost use Rattle.std.specs.Prelude.{◌≡◌, ◌<◌, IsTrue};
 
 use crate::told::expect;
@@ -8,7 +9,7 @@ use std::process::Abort;
 use std::sync::Wait;
 use waking_rows::WakingRows;
 
-/// A call by a seat, and what it answers.
+/// A call by a seat, and its expected result.
 #[derive(Clone, Copy)]
 enum Call {
     PutFront(u32, Result<(), u32>),
@@ -18,9 +19,9 @@ enum Call {
     Length(u16, u64),
 }
 
-/// At two rows and three seats: how many jobs the outsider puts in row 0 first, its calls then, and
-/// after them those of the owner of row 1, and those of the owner of row 0. These are left, where
-/// they are told.
+/// A story with two rows and three seats. The outsider puts `jobs` jobs into row 0, and makes its
+/// calls. Then the owner of row 1 makes its calls, and then the owner of row 0, which is the thief.
+/// The jobs in `left` are left at the end, if they are named.
 struct Story {
     name: &'static str,
     jobs: u32,
@@ -78,7 +79,8 @@ const STORIES: [Story; 3] = [
     },
 ];
 
-/// Whether the seat, which may own one of the two rows, is answered as the call says.
+/// Makes a call by a seat, and returns whether the result is as expected. Only a seat that owns one
+/// of the two rows may make calls at the front.
 fn answers<Q: Rows<u32, Global>, R: Wait>(
     rt: &R,
     rows: &Q,
@@ -102,7 +104,7 @@ fn answers<Q: Rows<u32, Global>, R: Wait>(
     }
 }
 
-/// Makes the calls in turn, and stops where one is answered otherwise.
+/// Makes the calls in turn. The test fails at the first unexpected result.
 fn make_calls<Q: Rows<u32, Global>, R: Wait + Abort>(
     rt: &R,
     rows: &Q,
@@ -123,7 +125,7 @@ fn make_calls<Q: Rows<u32, Global>, R: Wait + Abort>(
     }
 }
 
-/// Puts so many jobs in row 0, which it takes.
+/// Puts the given number of jobs, from 0 on, into row 0, which has room for them.
 fn fill<Q: Rows<u32, Global>, R: Wait + Abort>(rt: &R, rows: &Q, seat: &mut Q::Seat, jobs: u32)
     requires ours { Q.rows_of seat.old ≡ Q.identity_of rows.now }
     requires rows { Q.row_count rows.now ≡ 2 }
@@ -134,7 +136,7 @@ fn fill<Q: Rows<u32, Global>, R: Wait + Abort>(rt: &R, rows: &Q, seat: &mut Q::S
     }
 }
 
-/// Whether these jobs are left. Rows of slots hand them out in any order.
+/// Returns whether these jobs are left. Rows of slots return them in any order.
 fn are_left(left: &[u32], told: &[u32], in_order: bool) -> bool {
     if in_order {
         return left == told;
@@ -146,7 +148,7 @@ fn are_left(left: &[u32], told: &[u32], in_order: bool) -> bool {
     are_told
 }
 
-/// Tells a story, and stops where it goes otherwise.
+/// Runs a story. The test fails at the first unexpected result.
 fn tell<Q: Rows<u32, Global>, R: Wait + Abort>(
     rt: &R,
     alloc: Global,
@@ -178,6 +180,7 @@ fn tell<Q: Rows<u32, Global>, R: Wait + Abort>(
     }
 }
 
+/// Runs all stories on a kind of rows.
 fn expect_rows<Q: Rows<u32, Global>, R: Wait + Abort>(rt: &R, alloc: Global, in_order: bool) {
     for story in &STORIES {
         tell::<Q, R>(rt, alloc, in_order, story);

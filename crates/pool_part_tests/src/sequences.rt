@@ -1,9 +1,9 @@
-//! Worked sequences of calls on a count, with the words that they find.
+//! Sequences of calls on an event count, with the words that they find. `steps.rt` runs them.
 
 use crate::steps::{FIRST_EPOCH, LAST_EPOCH, Sequence, Step, run};
 use event_count::{Committed, Phase, TryCancel, TryCommit, TryNotify, TryNotifyAll};
 
-/// The last one has the calls that may wait, all on one thread.
+/// The sequences. The last one makes the calls that may wait, all on one thread.
 const SEQUENCES: [Sequence; 6] = [
     Sequence {
         name: "a waiter takes a signal",
@@ -31,7 +31,7 @@ const SEQUENCES: [Sequence; 6] = [
             (1, Step::Says(Phase::Running, false)),
         ],
     },
-    // A prewait comes between their looks and their exchanges.
+    // A prewait comes between the looks of the cancel and of the notification and their exchanges.
     Sequence {
         name: "a cancel and a notification of all are contended",
         waiters: 2,
@@ -61,7 +61,7 @@ const SEQUENCES: [Sequence; 6] = [
             (2, Step::Says(Phase::Running, true)),
         ],
     },
-    // A pop that was prepared at an older epoch of the same top loses.
+    // A pop fails if it was prepared at an older epoch of the top of the stack.
     Sequence {
         name: "stale pop is contended",
         waiters: 2,

@@ -1,4 +1,4 @@
-//! Rows of slots that threads share.
+//! Tests of rows of slots that threads share.
 ghost use Rattle.std.specs.Prelude.{◌≡◌, ◌<◌, All, length};
 ghost use Rattle.run_queue.specs.SlotSeats.{table_of, number_in, rows_id, row_count_of};
 
@@ -8,18 +8,19 @@ use std::process::Abort;
 use std::sync::{Mutex, Wait};
 use std::thread::{self, Threads};
 
-/// How many jobs the owner puts in, and how often each thief tries to take one.
+/// How many jobs the owner puts in, and how often each thief tries to take a job.
 const JOBS: u32 = 1_000_000;
 
-/// Takes what threads may share.
+/// Accepts a value only if threads may share it.
 fn share<T: Sync>(_value: &T) {}
 
-/// Rows may be shared wherever their jobs may cross threads, also where the jobs may not be shared.
+/// Compiles only if rows may be shared when their jobs may be sent to other threads, even if the
+/// jobs themselves may not be shared.
 fn rows_may_be_shared<J: Drop + Send>(rows: &SlotRows<J>) {
     share(rows);
 }
 
-/// Counts a job that is out of the rows.
+/// Counts that a job came out of the rows.
 fn mark<R: Wait>(rt: &R, marks: &Mutex<Vec<u8>>, job: u32) {
     let mut marks = marks.lock(rt);
     if let Some(mark) = marks.get_mut(job as usize) {
@@ -27,7 +28,7 @@ fn mark<R: Wait>(rt: &R, marks: &Mutex<Vec<u8>>, job: u32) {
     }
 }
 
-/// The owner puts each job in at the front, and takes one out every fourth time.
+/// Puts each job in at the front by the owner, which takes a job out every fourth time.
 fn own<R: Wait>(rt: &R, rows: &SlotRows<u32>, seat: &mut SlotSeat<u32>, marks: &Mutex<Vec<u8>>)
     requires of { table_of seat.old ≡ rows_id rows.now }
     requires owner { number_in seat.old < row_count_of rows.now }
@@ -45,7 +46,7 @@ fn own<R: Wait>(rt: &R, rows: &SlotRows<u32>, seat: &mut SlotSeat<u32>, marks: &
     }
 }
 
-/// A thief takes jobs out at the back.
+/// Takes jobs out at the back by a thief.
 fn steal<R: Wait>(rt: &R, rows: &SlotRows<u32>, seat: &mut SlotSeat<u32>, marks: &Mutex<Vec<u8>>)
     requires of { table_of seat.old ≡ rows_id rows.now }
     requires row { 0 < row_count_of rows.now }
@@ -58,7 +59,7 @@ fn steal<R: Wait>(rt: &R, rows: &SlotRows<u32>, seat: &mut SlotSeat<u32>, marks:
     }
 }
 
-/// The owner and the thieves, each on a thread of its own.
+/// Runs the owner and the thieves, each on a thread of its own.
 fn own_and_steal<R: Threads + Wait + Sync>(
     rt: &R,
     rows: &SlotRows<u32>,
@@ -88,7 +89,7 @@ fn own_and_steal<R: Threads + Wait + Sync>(
     );
 }
 
-/// Of each job, how often it was given back, taken or left.
+/// Returns for each job how often it was given back, taken or left.
 fn marks_of<R: Threads + Wait + Abort + Sync>(rt: &R, alloc: Global) -> Vec<u8> {
     let Ok(mut marks) = Vec::with_capacity(alloc, JOBS as usize) else {
         panic!(rt; "no memory")

@@ -1,4 +1,5 @@
-//! Steps on a count, each by the seat of a number, and what it finds or answers.
+//! Steps on an event count, each by the seat with a given number, and what it finds or returns.
+//! `sequences.rt` has the table; a new call needs a variant of `Step`.
 ghost use Rattle.std.specs.Prelude.{◌≡◌, ◌↔◌, [], All, IsTrue, length};
 ghost use Rattle.event_word.specs.declared.phase.Phase.TheVariants.{Pre};
 ghost use Rattle.event_count.specs.Seats.{card_of, sizes_of, IsSeatOf, IsIdle};
@@ -14,11 +15,11 @@ use std::sync::Wait;
 /// The epoch of each seat's first push, in a count that is made by `new`.
 pub(crate) const FIRST_EPOCH: u32 = 0;
 
-/// The last epoch that a seat has, so that each waiter is pushed once at most.
+/// The last epoch that a seat can have. From there each waiter is pushed at most once.
 pub(crate) const LAST_EPOCH: u32 = 4_194_303;
 
-/// Steps on a new count, each by the seat of its number. The count has so many seats, and this is
-/// the epoch of their first pushes.
+/// Steps on a new count, each by the seat with the given number. The count has `waiters` and
+/// `notifiers` seats, and `epoch` is the epoch of their first pushes.
 pub(crate) struct Sequence {
     pub(crate) name: &'static str,
     pub(crate) waiters: u16,
@@ -27,30 +28,31 @@ pub(crate) struct Sequence {
     pub(crate) steps: &'static [(u16, Step)],
 }
 
-/// What a seat does, and what it is to find or to answer.
+/// What a seat does, and what it must find or return.
 #[derive(Clone, Copy)]
 pub(crate) enum Step {
-    /// It says that it is in this phase, whether it has looked, and that it owes nobody.
+    /// The seat reports this phase and whether it has looked, and owes no unpark.
     Says(Phase, bool),
-    /// It looks, and finds this word.
+    /// The seat looks, and finds this word.
     Looks(u64),
-    /// It runs, and becomes a pre-waiter.
+    /// The seat is running, and becomes a pre-waiter.
     Prewaits,
-    /// It makes a call that tries once. Where that rests on a look, it has looked.
+    /// The seat makes a call that tries once, and gets this result. If the call needs a look, the
+    /// seat has looked. This holds for all variants whose names begin with `Tries`.
     TriesCommit(TryCommit),
     TriesCancel(TryCancel),
     TriesNotify(TryNotify),
     TriesNotifyAll(TryNotifyAll),
     TriesToken(bool),
     TriesUnpark(Option<u16>),
-    /// It makes a call that may wait.
+    /// The seat makes a call that may wait, like the three variants that follow.
     Commits(Committed),
     Cancels,
     Notifies,
     NotifiesAll,
 }
 
-/// Whether the seat may take the step, and finds and answers what the step says.
+/// Takes the step if the seat may, and returns whether it finds and returns what the step says.
 fn takes<R: Wait>(rt: &R, count: &EventCount, waiters: u16, seat: &mut Seat, step: Step) -> bool
     requires of { IsSeatOf count.now seat.old }
     requires waiters { (sizes_of count.now).waiters ≡ waiters }
@@ -72,7 +74,8 @@ fn takes<R: Wait>(rt: &R, count: &EventCount, waiters: u16, seat: &mut Seat, ste
     }
 }
 
-/// The same of a seat that runs and owes nobody.
+/// Takes the step of a seat that is running and owes no unpark, and returns whether it finds and
+/// returns what the step says.
 fn take_running<R: Wait>(
     rt: &R,
     count: &EventCount,
@@ -104,7 +107,7 @@ fn take_running<R: Wait>(
     }
 }
 
-/// The same of a pre-waiter.
+/// Takes the step of a pre-waiter, and returns whether it returns what the step says.
 fn take_waiting<R: Wait>(rt: &R, count: &EventCount, seat: &mut Seat, step: Step) -> bool
     requires of { IsSeatOf count.now seat.old }
     requires pre { (card_of seat.old).phase ≡ Pre }
@@ -122,7 +125,7 @@ fn take_waiting<R: Wait>(rt: &R, count: &EventCount, seat: &mut Seat, step: Step
     }
 }
 
-/// Takes the steps in turn, each by the seat at its number.
+/// Takes the steps of a sequence in turn, each by the seat at its number.
 fn take_each<R: Wait + Abort>(
     rt: &R,
     count: &EventCount,
@@ -146,15 +149,15 @@ fn take_each<R: Wait + Abort>(
     }
 }
 
-/// Whether the seat runs and owes nobody an unpark.
+/// Returns whether the seat is running and owes no unpark.
 fn is_idle(seat: &Seat) -> bool
     ensures { IsTrue result ↔ IsIdle seat.now }
 {
     seat.phase() == Phase::Running && !seat.owing()
 }
 
-/// Takes the steps, and stops where one finds or answers something else, where a seat is not idle
-/// behind the last, or where the last word is another.
+/// Runs a sequence on a new count. The test fails if a step finds or returns something unexpected,
+/// if a seat is not idle after the last step, or if the count is not closed at the initial word.
 pub(crate) fn run<R: Wait + Abort>(rt: &R, alloc: Global, sequence: &Sequence) {
     let (waiters, notifiers) = (sequence.waiters, sequence.notifiers);
     assert!(rt; sequence.epoch <= LAST_EPOCH);

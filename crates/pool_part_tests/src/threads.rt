@@ -1,4 +1,4 @@
-//! Threads that wait at one count, and threads that notify them.
+//! Tests of threads that wait at one event count, and of threads that notify them.
 ghost use Rattle.std.specs.Prelude.{◌≡◌, ◌<◌, ◌↔◌, [], All, IsSome, IsTrue, length};
 ghost use Rattle.event_count.specs.Seats.{card_of, looked_of, sizes_of, IsSeatOf, IsIdle};
 
@@ -12,16 +12,16 @@ use std::thread::{self, Threads};
 /// What waiters wait for.
 #[derive(Clone, Copy)]
 enum Wanted {
-    /// Nothing: each turn takes a signal, or parks and takes a token.
+    /// No condition: each turn takes a signal, or parks and takes a token.
     Notice,
     /// An item, which the waiter takes.
     Item,
-    /// More rounds than this turn's number.
+    /// More rounds than the number of this turn.
     Round,
 }
 
-/// So many waiters, each with so many turns, and so many notifiers, each with so many notifications
-/// that count.
+/// Numbers of waiters, of turns for each waiter, of notifiers, and of notifications that count for
+/// each notifier.
 struct Run {
     name: &'static str,
     wanted: Wanted,
@@ -32,7 +32,7 @@ struct Run {
 }
 
 const RUNS: [Run; 3] = [
-    // Each turn of a waiter takes one notification, and there are as many.
+    // Each turn of a waiter takes one notification, and there are as many notifications as turns.
     Run {
         name: "a ring of waiters and notifiers",
         wanted: Wanted::Notice,
@@ -41,7 +41,7 @@ const RUNS: [Run; 3] = [
         notifiers: 2,
         notices: 200_000,
     },
-    // Each item is made by one thread and taken by another, and none is left waiting.
+    // Each item is made by one thread and taken by another, and no item is left.
     Run {
         name: "producers and consumers",
         wanted: Wanted::Item,
@@ -50,7 +50,7 @@ const RUNS: [Run; 3] = [
         notifiers: 4,
         notices: 200_000,
     },
-    // All are woken while some of them go onto the stack.
+    // All waiters are woken while some of them go onto the stack.
     Run {
         name: "all are woken",
         wanted: Wanted::Round,
@@ -61,7 +61,7 @@ const RUNS: [Run; 3] = [
     },
 ];
 
-/// Stops where a seat says something else of itself, or owes an unpark.
+/// Checks what a seat reports of itself, and that it owes no unpark.
 fn expect_seat<R: Abort>(rt: &R, seat: &Seat, number: u32, phase: Phase, looked: bool)
     ensures number { (card_of seat.now).number ≡ number }
     ensures phase { (card_of seat.now).phase ≡ phase }
@@ -72,7 +72,7 @@ fn expect_seat<R: Abort>(rt: &R, seat: &Seat, number: u32, phase: Phase, looked:
     assert_eq!(rt; found, (number, phase, looked, false));
 }
 
-/// Takes an item, if there is one.
+/// Takes an item, and returns whether there was one.
 fn take_item<R: Wait>(rt: &R, items: &AtomicU64) -> bool {
     for _ in rt.forever() {
         let left = items.load(Ordering::SeqCst);
@@ -87,7 +87,7 @@ fn take_item<R: Wait>(rt: &R, items: &AtomicU64) -> bool {
     unreachable!()
 }
 
-/// Waits until there is what is wanted.
+/// Waits once, until what is wanted is there.
 fn wait_once<R: Wait + Abort>(
     rt: &R,
     count: &EventCount,
@@ -123,7 +123,7 @@ fn wait_once<R: Wait + Abort>(
     }
 }
 
-/// Waits in each turn.
+/// Waits once in each turn of the run.
 fn wait_often<R: Wait + Abort>(
     rt: &R,
     count: &EventCount,
@@ -142,7 +142,8 @@ fn wait_often<R: Wait + Abort>(
     }
 }
 
-/// Notifies one or all, and tells whether that counts: a waiter without a condition has to be there.
+/// Notifies one waiter or all of them. Returns whether the notification counts: without a
+/// condition, it counts only if it reached a waiter.
 fn notify_once<R: Wait + Abort>(
     rt: &R,
     count: &EventCount,
@@ -184,7 +185,7 @@ fn notify_once<R: Wait + Abort>(
     told
 }
 
-/// Notifies until so many notifications have counted.
+/// Notifies until the run's number of notifications have counted.
 fn notify_often<R: Wait + Abort>(
     rt: &R,
     count: &EventCount,
@@ -208,7 +209,7 @@ fn notify_often<R: Wait + Abort>(
     }
 }
 
-/// Waiters and notifiers, each on a thread of its own.
+/// Runs the waiters and the notifiers, each on a thread of its own.
 fn wait_and_notify<R: Threads + Wait + Abort + Sync>(
     rt: &R,
     count: &EventCount,
@@ -244,7 +245,8 @@ fn wait_and_notify<R: Threads + Wait + Abort + Sync>(
     );
 }
 
-/// Waits and notifies at a new count: how many items are left, or rounds there were.
+/// Runs the waiters and notifiers at a new count. Returns how many items are left, or how many
+/// rounds there were.
 fn made_by<R: Threads + Wait + Abort + Sync>(rt: &R, alloc: Global, run: &Run) -> u64 {
     let Ok((count, mut seats)) = EventCount::new(alloc, run.waiters, run.notifiers) else {
         panic!(rt; "no count")

@@ -1,10 +1,11 @@
-//! Walks by worked words.
+//! Tests of walks by given words.
 
 use std::alloc::Global;
 use std::process::Abort;
 use steal_walk::{Coprimes, Walk};
 
-/// A word, the rows that a walk by it goes over, and those rows in its order.
+/// A word, the range of rows of a walk that the word picks, and these rows in the order of the
+/// walk.
 struct Course {
     word: u32,
     start: u32,
@@ -41,7 +42,8 @@ const COURSES: [Course; 4] = [
     },
 ];
 
-/// Whether a walk tells these rows, before each how many are left, and then none any more.
+/// Returns whether a walk yields these rows, reports before each how many are left, and then yields
+/// none.
 fn goes<R: Abort>(rt: &R, alloc: Global, course: &Course) -> bool {
     let Course {
         word,

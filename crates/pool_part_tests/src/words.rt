@@ -1,27 +1,27 @@
-//! Worked words of an event count.
+//! Tests of the state word of an event count: fields, and what each step makes of it.
 
 use event_word::{
     AfterCommit, AfterNotify, AfterNotifyAll, Fields, after_cancel, after_commit, after_notify,
     after_notify_all, after_pop, after_prewait, pack, unpack,
 };
 
-/// What is made of a word.
+/// What is done with a word, and the expected result.
 #[derive(Clone, Copy)]
 enum Step {
-    /// It has these fields, and they make the word.
+    /// Unpacks the word to these fields, and packs them to the word again.
     Unpacks(Fields),
-    /// It becomes this word.
+    /// Makes this word by a prewait. `Cancels` does so by a cancel.
     Prewaits(u64),
     Cancels(u64),
-    /// By seat 0, at this epoch.
+    /// Commits by seat 0 at this epoch.
     Commits(u32, AfterCommit),
     Notifies(AfterNotify),
     NotifiesAll(AfterNotifyAll),
-    /// By the top's next word, to this word.
+    /// Pops the top, whose next word is the first number, which makes the second number.
     Pops(u64, u64),
 }
 
-/// An epoch is below this.
+/// The number of epochs: each epoch is below it.
 const EPOCHS: u32 = 4_194_304;
 
 const NONE_WAITING: u64 = 0x3FFF;
@@ -80,12 +80,12 @@ const WORDS: &[(&str, u64, Step)] = &[
         NONE_WAITING,
         Step::NotifiesAll(AfterNotifyAll::Nothing),
     ),
-    // Of two pre-waiters and one signal.
+    // There are two pre-waiters and one signal.
     ("a cancel", 0x1000_BFFF, Step::Cancels(0x1000_7FFF)),
     ("a second cancel", 0x1000_7FFF, Step::Cancels(NONE_WAITING)),
 ];
 
-/// Whether the step may be taken, and makes of the word what it says.
+/// Returns whether the step may be taken, and makes of the word what it says.
 fn is_right(word: u64, step: Step) -> bool {
     let fields = unpack(word);
     match step {

@@ -1,4 +1,4 @@
-//! Worked runs of a World.
+//! Tests of runs of a World. A new run is a row of `RUNS`; a new event needs a row there too.
 ghost use Rattle.std.specs.Prelude.{◌≡◌, ◌+◌, length};
 ghost use Rattle.event_word.specs.Play.{SameSizes};
 
@@ -7,7 +7,7 @@ use event_word::{Event, Phase, World};
 use std::alloc::Global;
 use std::process::Abort;
 
-/// How many of each a World has.
+/// How many workers, notifiers and rows a World has.
 #[derive(Clone, Copy)]
 struct Sizes {
     workers: u16,
@@ -15,16 +15,16 @@ struct Sizes {
     rows: u16,
 }
 
-/// What a World is asked to do or to tell, and its answer.
+/// What a World is asked to do or to report, and its expected answer.
 #[derive(Clone, Copy)]
 enum Ask {
-    /// To play these events, of which so many are possible.
+    /// Plays these events, of which the given number are possible.
     Plays(&'static [Event], u64),
-    /// To take a step, and whether it is possible.
+    /// Takes a step, which is possible or not.
     Steps(Event, bool),
     Phase(u16, Phase),
     Token(u16, bool),
-    /// The seat that an actor owes at a place.
+    /// The seat that an actor owes an unpark, at a place of the actor's list.
     Owed(u32, usize, Option<u16>),
     Length(u16, u64),
     Pre(&'static [u16]),
@@ -40,14 +40,14 @@ struct Run {
     asks: &'static [Ask],
 }
 
-/// Worker 0, notifier 1 and row 0.
+/// A World of worker 0, notifier 1 and row 0.
 const ONE_ROW: Sizes = Sizes {
     workers: 1,
     notifiers: 1,
     rows: 1,
 };
 
-/// Seats 0 and 2 of three go onto the stack, and seat 1 is a pre-waiter.
+/// Events by which seats 0 and 2 of three go onto the stack, and seat 1 becomes a pre-waiter.
 const TWO_ASLEEP: [Event; 7] = [
     Event::Prewait { seat: 0 },
     Event::PassFlag { seat: 0 },
@@ -188,7 +188,7 @@ const RUNS: [Run; 5] = [
     },
 ];
 
-/// Whether the World answers as it is to.
+/// Asks the World, and returns whether its answer is as expected.
 fn answers(world: &mut World, sizes: Sizes, ask: Ask) -> bool
     requires workers { length world.old.phases ≡ sizes.workers }
     requires actors { length world.old.owed ≡ sizes.workers + sizes.notifiers }
@@ -212,7 +212,7 @@ fn answers(world: &mut World, sizes: Sizes, ask: Ask) -> bool
     }
 }
 
-/// Asks a World in turn, and stops where it answers otherwise.
+/// Asks a new World all questions of a run in turn. The test fails at the first unexpected answer.
 fn ask_each<R: Abort>(rt: &R, alloc: Global, run: &Run) {
     let sizes = run.sizes;
     assert!(rt; sizes.workers > 0 && sizes.workers <= 16_382);

@@ -1,4 +1,4 @@
-//! Bodies of pools.
+//! The bodies that the tests' pools run. `runs.rt` and `trees.rt` open their pools by `run_all`.
 ghost use Rattle.std.specs.Prelude.{◌≤◌};
 ghost use Rattle.worker_pool.specs.Callers.{IsCaller, StaysCaller, started_of};
 
@@ -11,6 +11,7 @@ use std::sync::atomic::Ordering;
 use std::thread::Threads;
 use worker_pool::{Caller, Closed, Job, Lists, PoolFault, Setup, with_pool, with_pool_limited};
 
+/// Schedules the jobs, and lets the watch look on after each.
 fn schedule_all<RT, J, W, R, L>(
     rt: &RT,
     caller: &mut Caller<'_, J, Global, W, R, L>,
@@ -33,8 +34,8 @@ where
     }
 }
 
-/// Schedules the first jobs; where there are jobs for a pool that is cancelled, cancels it and
-/// schedules them; and lets the workers go that are held.
+/// Schedules the first jobs. If there are jobs for a cancelled pool, cancels the pool and schedules
+/// them. Then lets go the workers that are held.
 fn schedule_both<RT, J, W, R, L>(
     rt: &RT,
     caller: &mut Caller<'_, J, Global, W, R, L>,
@@ -60,9 +61,9 @@ where
     watch.let_go.store(1, Ordering::SeqCst);
 }
 
-/// A pool whose body schedules the first jobs; and where there are jobs for a pool that is
-/// cancelled, cancels it and schedules them. Its watch says which workers are started, and is told
-/// of how many workers the body was told, if it says so.
+/// Opens a pool whose body schedules the first jobs. If there are jobs for a cancelled pool, the
+/// body cancels the pool and schedules them. If the watch limits the workers that are started, the
+/// body reports to the watch how many were started.
 pub(crate) fn run_all<W, R, L, RT, J>(
     rt: &RT,
     alloc: Global,

@@ -1,4 +1,5 @@
-//! Tests of pools: opened, worked in and closed; of tasks as jobs; and of rows of one's own.
+//! Tests of pools that are opened, worked in and closed, of tasks as jobs, and of a caller's own
+//! rows and wait points. README.md says which table a new test is a row of.
 #![tactic(auto)]
 
 #[cfg(test)]

@@ -1,11 +1,11 @@
-//! Lists of a pool by themselves.
+//! Tests of `VecLists`, without a pool.
 use std::alloc::{AllocError, Global};
 use std::test::Fail;
 use worker_pool::{Lists, VecLists};
 
 type Numbers = Vec<u64>;
 
-/// A list to which the first three numbers were added, and then the last.
+/// Returns a list to which the first three numbers were added, and then the last.
 fn kept(alloc: Global, first: [u64; 3], last: u64) -> Result<Numbers, AllocError> {
     let mut list: Numbers = <VecLists as Lists<u64, Global>>::new(alloc);
     <VecLists as Lists<u64, Global>>::reserve(&mut list, 3)?;
@@ -18,7 +18,7 @@ fn kept(alloc: Global, first: [u64; 3], last: u64) -> Result<Numbers, AllocError
     Ok(<VecLists as Lists<u64, Global>>::into_vec(list))
 }
 
-/// Memory for more moves no item.
+/// Allocating memory for more items keeps the items of the list.
 #[test]
 fn a_list_has_what_it_was_given(rt: HostRuntime) -> Result<(), Fail> {
     let list = kept(rt.alloc(), [10, 20, 30], 40)?;

@@ -1,4 +1,4 @@
-//! Rows that give back every job.
+//! Rows that return every job, for pools that must then run the jobs on the calling thread.
 ghost use Rattle.std.specs.Prelude.{◌≡◌, ◌+◌, IfOk, []};
 ghost use Rattle.std.specs.List.{range_with_len};
 
@@ -77,7 +77,7 @@ impl<J: Drop> Rows<J, Global> for OwnRows {
     }
 }
 
-/// The seats from 0 on.
+/// Returns `count` seats, numbered from 0 on.
 fn seats(alloc: Global, count: u32) -> Result<Vec<u32>, AllocError>
     ensures { IfOk result (λ seats. seats.items ≡ range_with_len 0 count) }
 {

@@ -1,4 +1,4 @@
-//! Pools that run tasks, and what they leave of them.
+//! Pools that run tasks, and checks of what they leave. `settings.rt` has the tables of runs.
 use crate::bodies::run_all;
 use crate::own_rows::OwnRows;
 use crate::setups::setup_of;
@@ -14,18 +14,19 @@ use std::test::Fail;
 use std::thread::Threads;
 use worker_pool::{BoxedJob, Closed, PoolFault, Setup, TaskOut, VecLists};
 
-/// What workers wait at, and take tasks from.
+/// The wait point and the rows of a pool that runs tasks.
 #[derive(Clone, Copy, Debug)]
 pub(crate) enum Kind {
     UnderLocks,
     OverSlots,
-    /// Over slots, where each worker can go to sleep once at most.
+    /// Rows of slots, and a wait point at which each worker can sleep at most once.
     Worn,
-    /// Rows that take no task.
+    /// Rows that take no task, and a wait point with a lock.
     OwnRows,
 }
 
-/// What a pool leaves of the first tasks, and of those that are scheduled once it is cancelled.
+/// Runs a pool on the first tasks and on tasks that are scheduled once it is cancelled, and returns
+/// what it leaves.
 pub(crate) fn run_tasks<RT: Threads + Wait + Sync>(
     rt: &RT,
     alloc: Global,
@@ -79,50 +80,53 @@ pub(crate) fn run_tasks<RT: Threads + Wait + Sync>(
 #[derive(Clone, Copy)]
 pub(crate) enum Tasks {
     Tenfolds,
-    /// Two that look for each other's flag.
+    /// Two tasks that look for each other's flag.
     Meeting,
 }
 
-/// A pool, and tasks of the tags 1, 2, 3 and so on that are scheduled in it.
+/// A pool, and the tasks with tags 1, 2, 3 and so on that are scheduled in it.
 #[derive(Clone, Copy)]
 pub(crate) struct Run {
     pub(crate) name: &'static str,
     pub(crate) kind: Kind,
     pub(crate) workers: u32,
-    /// The rows of the workers' partitions.
+    /// The start and the limit of each worker's partition.
     pub(crate) ranges: &'static [(u32, u32)],
-    /// Below which number workers are started, if not all are.
+    /// The number below which workers are started, if not all are.
     pub(crate) starts: Option<u32>,
     pub(crate) way: Way,
     pub(crate) scheduled: Tasks,
-    /// How many tasks are scheduled before the pool is cancelled, which it is where there are more.
+    /// How many tasks are scheduled before the pool is cancelled. It is cancelled only if there are
+    /// more tasks.
     pub(crate) first: u64,
     pub(crate) tasks: u64,
-    /// How many tasks the workers run, where it is known that the caller runs all others.
+    /// How many tasks the workers run, if it is known that the caller runs all others.
     pub(crate) by_workers: Option<u64>,
-    /// How often all this is done.
+    /// How often the run is repeated.
     pub(crate) times: u32,
 }
 
-/// What a pool left of its tasks, and what was seen of it.
+/// What a pool left of its tasks, and what the watch saw.
 #[derive(Debug, Drop, PartialEq)]
 struct Left {
     lists: u64,
-    /// How many outs, and where the pool was cancelled how many tasks too that nobody ran.
+    /// The number of outs and, if the pool was cancelled, of tasks that nobody ran.
     tasks: u64,
-    /// The first of these, by tags, that isn't the next task's.
+    /// The first of these outs, by tags, that is not the next task's.
     wrong: Option<TaskOut>,
-    /// How many workers ran tasks and weren't started.
+    /// How many workers ran tasks though they were not started.
     by_others: u64,
-    /// How many tasks the caller ran, and the first that wasn't the next one, where that is known.
+    /// How many tasks the caller ran, and its first out that was not the next task's, if this is
+    /// known.
     by_caller: Option<(u64, Option<TaskOut>)>,
-    /// How many tasks nobody ran where the pool wasn't cancelled.
+    /// How many tasks nobody ran, if the pool was not cancelled.
     left: usize,
     refused: u64,
     seen: Seen,
 }
 
-/// The first out that isn't the next task's, of tasks behind a tag.
+/// Returns the first out that is not the next task's, in outs that must begin after the tag
+/// `behind`.
 fn first_wrong(behind: u64, outs: &[TaskOut]) -> Option<TaskOut> {
     let mut tag = behind;
     for out in outs {
@@ -134,6 +138,7 @@ fn first_wrong(behind: u64, outs: &[TaskOut]) -> Option<TaskOut> {
     None
 }
 
+/// Collects what a pool left of the tasks of a run.
 fn left_of(
     alloc: Global,
     run: Run,
@@ -174,7 +179,8 @@ fn left_of(
     })
 }
 
-/// Each task was run once, or is left where the pool was cancelled, by those that are to run it.
+/// Checks that each task was run once, or is left if the pool was cancelled, and that the right
+/// threads ran them.
 pub(crate) fn expect_each_once<R: Abort>(
     rt: &R,
     alloc: Global,
@@ -215,7 +221,7 @@ pub(crate) fn expect_each_once<R: Abort>(
     Ok(())
 }
 
-/// Each task is run once, as the run says.
+/// Runs the pool of a run as often as it says, and checks that each task is run once.
 pub(crate) fn expect_run<RT>(rt: &RT, alloc: Global, run: Run) -> Result<(), Fail>
 where
     RT: Threads + Wait + Abort + Sync,
@@ -234,7 +240,7 @@ where
     Ok(())
 }
 
-/// Three tasks in a pool under locks, once.
+/// Three tasks in a pool with locks, run once. Other runs change some of its fields.
 pub(crate) const RUN: Run = Run {
     name: "one worker",
     kind: Kind::UnderLocks,

@@ -1,4 +1,4 @@
-//! The settings of pools in which each task is run once.
+//! Tests of pools in which each task is run once, by tables of runs and settings.
 use crate::runs::{Kind, RUN, Run, Tasks, expect_each_once, expect_run};
 use crate::setups::setup_of;
 use crate::tasks::looking;
@@ -10,7 +10,7 @@ use std::sync::atomic::{AtomicU64, Ordering};
 use std::test::Fail;
 use worker_pool::{BoxedJob, VecLists, with_root};
 
-/// Two tasks, the pool being cancelled between them.
+/// Two tasks, between which the pool is cancelled.
 const BETWEEN: Run = Run {
     name: "a cancel between two",
     first: 1,
@@ -19,7 +19,7 @@ const BETWEEN: Run = Run {
     ..RUN
 };
 
-/// One task more than a row has places, while the worker is held.
+/// One task more than a row has places, scheduled while the worker is held.
 const FULL: Run = Run {
     name: "a full row",
     way: Way::Held,
@@ -28,7 +28,7 @@ const FULL: Run = Run {
     ..RUN
 };
 
-/// Two tasks that two workers run at one time.
+/// Two tasks that two workers run at the same time.
 const MEETING: Run = Run {
     name: "two tasks meet",
     workers: 2,
@@ -56,7 +56,7 @@ const RUNS: &[Run] = &[
         workers: 64,
         ..BETWEEN
     },
-    // The caller runs the one more.
+    // The caller runs the last task.
     Run {
         by_workers: Some(1024),
         ..FULL
@@ -66,14 +66,14 @@ const RUNS: &[Run] = &[
         kind: Kind::OverSlots,
         ..FULL
     },
-    // So a pool that keeps its jobs elsewhere than in its rows is found out.
+    // This run finds a pool that keeps its jobs elsewhere than in its rows.
     Run {
         name: "rows that take no task",
         kind: Kind::OwnRows,
         by_workers: Some(0),
         ..RUN
     },
-    // The worker goes to sleep once at most. After that it turns on, and runs what comes.
+    // The worker sleeps at most once. After that it keeps taking turns, and runs what comes.
     Run {
         name: "a worker that can not sleep",
         kind: Kind::Worn,
@@ -93,7 +93,7 @@ fn each_task_is_run_once(rt: HostRuntime) -> Result<(), Fail> {
 }
 
 /// Pools in which three tasks are scheduled: their workers, the rows of their partitions, how many
-/// workers are started if not all are, and how many tasks the workers run if that is known.
+/// workers are started if not all are, and how many tasks the workers run if this is known.
 const SETTINGS: &[(&str, u32, &[(u32, u32)], Option<u32>, Option<u64>)] = &[
     ("one worker", 1, &[], None, None),
     ("two workers", 2, &[], None, None),
@@ -106,7 +106,7 @@ const SETTINGS: &[(&str, u32, &[(u32, u32)], Option<u32>, Option<u64>)] = &[
     ("all of two started", 2, &[], Some(u32::MAX), None),
 ];
 
-/// What the workers wait at, and how many tasks are scheduled before the pool is cancelled.
+/// The kind of rows and wait point, and how many tasks are scheduled before the pool is cancelled.
 const MOMENTS: &[(Kind, u64)] = &[
     (Kind::UnderLocks, 3),
     (Kind::UnderLocks, 0),
@@ -114,7 +114,7 @@ const MOMENTS: &[(Kind, u64)] = &[
     (Kind::OverSlots, 0),
 ];
 
-/// In an open pool each task is run once; a cancel before the first may leave it.
+/// In an open pool each task is run once. A task that is scheduled after a cancel may be left.
 #[test]
 fn three_tasks_in_each_setting(rt: HostRuntime) -> Result<(), Fail> {
     for &(name, workers, ranges, starts, by_workers) in SETTINGS {
@@ -135,11 +135,11 @@ fn three_tasks_in_each_setting(rt: HostRuntime) -> Result<(), Fail> {
     Ok(())
 }
 
-/// How often the opener looks whether the task runs while all workers are held.
+/// How often the opener checks whether the task runs while all workers are held.
 const EARLY_LOOKS: u64 = 1_000_000;
 
-/// The workers are let go once the task could have run. It is run by one of them, and by none before
-/// its turn 0 was let through.
+/// The workers are let go once the task could have run. One of them runs it, after the gate has let
+/// through its turn 0.
 #[test]
 fn a_gate_that_holds_the_first_turns(rt: HostRuntime) -> Result<(), Fail> {
     let alloc = rt.alloc();

@@ -1,4 +1,4 @@
-//! Which setups a pool takes.
+//! Tests of which setups a pool accepts.
 use crate::runs::run_tasks;
 use crate::tasks::tenfolds;
 use crate::trees::grow;
@@ -11,7 +11,7 @@ use std::thread::Threads;
 use steal_walk::Partition;
 use worker_pool::{PoolFault, Setup};
 
-/// A setup of so many workers with the partitions of these rows.
+/// Returns a setup of the given number of workers, with the partitions of these rows.
 pub(crate) fn setup_of(
     alloc: Global,
     workers: u32,
@@ -29,7 +29,7 @@ pub(crate) fn setup_of(
     })
 }
 
-/// Numbers of workers, the rows of their partitions, and why a pool doesn't take them.
+/// Numbers of workers, the rows of their partitions, and the fault of such a setup.
 const SETUPS: &[(u32, &[(u32, u32)], Option<PoolFault>)] = &[
     (1, &[], None),
     (256, &[], None),
@@ -50,7 +50,7 @@ const SETUPS: &[(u32, &[(u32, u32)], Option<PoolFault>)] = &[
     (2, &[(0, 2), (0, 2), (0, 2)], Some(PoolFault::BadPartition)),
 ];
 
-/// Why no pool over slots is opened of which so many workers are started, if it isn't.
+/// Returns the fault of opening a pool over slots, of which at most `starts` workers are started.
 fn fault_of<RT: Threads + Wait + Sync>(
     rt: &RT,
     alloc: Global,
@@ -63,7 +63,7 @@ fn fault_of<RT: Threads + Wait + Sync>(
     Ok(closed.err())
 }
 
-/// All ways to open a pool end with the fault of the setup.
+/// All ways to open a pool return the fault of the setup.
 #[test]
 fn setups_that_are_taken_and_refused(rt: HostRuntime) -> Result<(), Fail> {
     let alloc = rt.alloc();

@@ -1,15 +1,15 @@
-//! Tasks as jobs.
+//! The tasks of the tests' pools, and a test of a task as a job.
 use std::alloc::{AllocError, Global};
 use std::sync::Arc;
 use std::sync::atomic::{AtomicU64, Ordering};
 use std::test::Fail;
 use worker_pool::{BoxedJob, BoxedTask, Job, Progress, TaskOut};
 
-/// How often a task looks whether the other has come.
+/// How often a task looks whether the other task has come.
 const LOOKS: u64 = 200_000_000;
 
-/// A task that answers ten times its tag at its first run and 0 later, since it changes its tag as
-/// it runs.
+/// A task whose first run answers ten times its tag. Later runs answer 0, since the first run sets
+/// the tag to 0.
 #[derive(Drop)]
 struct Tenfold {
     tag: u64,
@@ -33,18 +33,18 @@ impl BoxedTask for Tenfold {
     }
 }
 
-/// What a task of this tag leaves.
+/// Returns the out of a task with this tag.
 pub(crate) fn out_of(tag: u64) -> TaskOut {
     let answer = tag.wrapping_mul(10);
     TaskOut { tag, answer }
 }
 
-/// A job that answers ten times this tag.
+/// Returns a job that answers ten times this tag.
 fn job_of(alloc: Global, tag: u64) -> Result<BoxedJob, AllocError> {
     Ok(BoxedJob(Box::new(alloc, Tenfold { tag })?))
 }
 
-/// Tasks of the tags behind one and up to another.
+/// Returns tasks with the tags from `behind + 1` to `last`.
 pub(crate) fn tenfolds(alloc: Global, behind: u64, last: u64) -> Result<Vec<BoxedJob>, AllocError> {
     let mut jobs = Vec::new(alloc);
     for before in behind..last {
@@ -53,7 +53,8 @@ pub(crate) fn tenfolds(alloc: Global, behind: u64, last: u64) -> Result<Vec<Boxe
     Ok(jobs)
 }
 
-/// A task that raises a flag, and answers ten times its tag where it sees another raised, else 0.
+/// A task that raises a flag. It answers ten times its tag if it sees another flag raised, and
+/// otherwise 0.
 #[derive(Drop)]
 struct Meets {
     tag: u64,
@@ -82,7 +83,8 @@ impl BoxedTask for Meets {
     }
 }
 
-/// A task of the tag 1 that tells that it ran, and sees whether it was let go before that.
+/// Returns a task with the tag 1, which reports that it ran, and sees whether the workers were let
+/// go before.
 pub(crate) fn looking(
     alloc: Global,
     ran: &Arc<AtomicU64>,
@@ -97,7 +99,7 @@ pub(crate) fn looking(
     Ok(BoxedJob(Box::new(alloc, task)?))
 }
 
-/// Two tasks that look for each other's flag, of the tags 1 and 2.
+/// Returns two tasks with the tags 1 and 2, which look for each other's flag.
 pub(crate) fn meeting(alloc: Global) -> Result<Vec<BoxedJob>, AllocError> {
     let one = Arc::new(alloc, AtomicU64::new(0))?;
     let two = Arc::new(alloc, AtomicU64::new(0))?;
@@ -114,7 +116,7 @@ pub(crate) fn meeting(alloc: Global) -> Result<Vec<BoxedJob>, AllocError> {
     Ok(jobs)
 }
 
-/// The first step of a job of any kind.
+/// Takes the first step of a job of any kind.
 fn step_of<J: Job<Global>>(
     alloc: Global,
     ctx: &J::Ctx,
@@ -123,7 +125,7 @@ fn step_of<J: Job<Global>>(
     job.step(alloc, ctx)
 }
 
-/// Its out has the tag that it had before it ran.
+/// A task is run once, and its out has the tag from before the run. An abandoned task is not run.
 #[test]
 fn a_task_is_run_once(rt: HostRuntime) -> Result<(), Fail> {
     let job = job_of(rt.alloc(), 7)?;

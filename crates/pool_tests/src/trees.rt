@@ -1,4 +1,4 @@
-//! Jobs that fork into trees, and the pools that run them.
+//! Tests of pools that run jobs which fork into trees.
 use crate::bodies::run_all;
 use crate::setups::setup_of;
 use crate::watch::{Watch, Way};
@@ -14,7 +14,7 @@ use worker_pool::{
     Closed, Job, NoGate, PoolFault, Progress, Setup, VecLists, with_counted_root, with_root,
 };
 
-/// The leaves of a tree, each by its place. A tree of height 0 is a leaf.
+/// A job for the leaves of a tree, whose outs are their places. A tree of height 0 is a leaf.
 #[derive(Drop)]
 pub(crate) struct Tree {
     place: u64,
@@ -52,20 +52,21 @@ impl Job<Global> for Tree {
     fn abandon(self, _ctx: &()) {}
 }
 
-/// How a pool for a tree is opened, what its workers wait at, and take jobs from.
+/// How a pool for a tree is opened, and its wait point and rows.
 #[derive(Clone, Copy)]
 pub(crate) enum Kind {
-    /// For the tree, under locks.
+    /// Opened by `with_root`, with locks.
     Planted,
-    /// For the tree, over one count.
+    /// Opened by `with_counted_root`, over one count.
     Counted,
     UnderLocks,
     OverSlots,
-    /// Over slots, where each worker can go to sleep once at most.
+    /// Opened by `with_pool`, over slots, with a wait point at which each worker can sleep at most
+    /// once.
     Worn,
 }
 
-/// What a pool leaves of a tree of this height.
+/// Runs a tree of this height in a pool, and returns what the pool leaves.
 pub(crate) fn grow<RT: Threads + Wait + Sync>(
     rt: &RT,
     alloc: Global,
@@ -131,7 +132,7 @@ pub(crate) fn grow<RT: Threads + Wait + Sync>(
     }
 }
 
-/// The first place that isn't the next leaf's.
+/// Returns the first place that is not the next leaf's.
 fn first_wrong(places: &[u64]) -> Option<u64> {
     let mut next = 0u64;
     for place in places {
@@ -143,8 +144,8 @@ fn first_wrong(places: &[u64]) -> Option<u64> {
     None
 }
 
-/// A pool leaves each of so many leaves once, in a list for each of its workers and one for the
-/// caller.
+/// Checks that a pool leaves each leaf of a tree once, in a list for each of its workers and one
+/// for the caller.
 fn expect_leaves<RT>(
     rt: &RT,
     alloc: Global,
@@ -168,8 +169,8 @@ where
     Ok(())
 }
 
-/// Pools, their workers, the heights of their trees, how many leaves these have, and how often a
-/// pool is opened for them.
+/// Names, kinds of pools, their workers, the heights of their trees, how many leaves these have,
+/// and how often a pool is opened for them.
 const TREES: &[(&str, Kind, u32, u32, u64, u32)] = &[
     ("scheduled", Kind::UnderLocks, 1, 16, 65_536, 1),
     ("scheduled", Kind::UnderLocks, 2, 16, 65_536, 1),
@@ -213,14 +214,14 @@ fn each_leaf_of_trees(rt: HostRuntime) -> Result<(), Fail> {
     Ok(())
 }
 
-/// The workers of pools, and how often one is opened for a leaf.
+/// The workers of pools, and how often a pool is opened for one leaf.
 const OPENINGS: &[(u32, u32)] = &[
     (2, 10_000),
-    // Fewer, since starting 256 threads takes longest.
+    // Fewer times, since starting 256 threads takes longest.
     (256, 100),
 ];
 
-/// One test of all openings would take too long.
+/// A test of its own, since a single test of all openings would take too long.
 #[test]
 fn pools_that_are_opened_again_and_again(rt: HostRuntime) -> Result<(), Fail> {
     for &(workers, times) in OPENINGS {

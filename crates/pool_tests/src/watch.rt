@@ -1,49 +1,50 @@
-//! A gate that holds workers back, and sees which turns they have.
+//! A gate that holds workers back, and counts which turns they take. The bodies of `bodies.rt` use
+//! it.
 use std::alloc::{AllocError, Global};
 use std::sync::Arc;
 use std::sync::atomic::{AtomicU64, Ordering};
 use worker_pool::Gate;
 
-/// How often a worker that is held looks at most whether it is let go.
+/// How often a held worker looks at most whether it is let go.
 const LOOKS: u64 = 200_000_000;
 
-/// So many turns, one after the other and nothing to do, has only a worker that can't sleep.
+/// The number of turns without a job after which it is clear that a worker cannot sleep.
 const IDLE_TURNS: u64 = 1_000;
 
-/// How often the body looks at most whether a worker has had these turns.
+/// How often the body looks at most whether the workers have taken these turns.
 const PASSES: u64 = 20_000_000;
 
 /// How jobs are scheduled.
 #[derive(Clone, Copy)]
 pub(crate) enum Way {
-    /// One after the other.
+    /// One job after the other.
     AtOnce,
     /// While each worker is held before its first turn, until all jobs are scheduled.
     Held,
-    /// Each by itself, the workers being left alone after it.
+    /// Each job by itself, after which the workers are left alone for a while.
     Apart,
 }
 
-/// What a body and the workers of its pool did.
+/// What the watch has seen of a body and the workers of its pool.
 #[derive(Clone, Copy, Debug, PartialEq, Eq)]
 pub(crate) struct Seen {
-    /// How many workers the body was told of, if it was.
+    /// The number of started workers that the body reported, if it did.
     pub(crate) told: Option<u32>,
-    /// How many turns workers had whose numbers aren't below `starts`.
+    /// How many turns were taken by workers whose numbers are not below `starts`.
     pub(crate) others: u64,
     /// How many turns of held workers began out of their order.
     pub(crate) misnumbered: u64,
-    /// Whether workers that were left alone turned on.
+    /// Whether workers that were left alone kept taking turns.
     pub(crate) awake: bool,
 }
 
-/// A gate, and what a body does besides. It counts what it sees.
+/// A gate that also watches the body of a pool. It counts what it sees.
 #[derive(Drop)]
 pub(crate) struct Watch {
     way: Way,
-    /// Below which number workers are started, if not all are.
+    /// The number below which workers are started, if not all are.
     pub(crate) starts: Option<u32>,
-    /// Raised once all jobs are scheduled.
+    /// A flag that is raised once all jobs are scheduled.
     pub(crate) let_go: Arc<AtomicU64>,
     told: AtomicU64,
     turns: AtomicU64,
@@ -69,12 +70,13 @@ impl Watch {
         })
     }
 
-    /// The body is told of so many workers.
+    /// Records how many workers were started, as the body reports it.
     pub(crate) fn tell(&self, workers: u32) {
         self.told.store(u64::from(workers), Ordering::SeqCst);
     }
 
-    /// A job is scheduled. Where each is by itself, waits whether so many turns pass.
+    /// Is called after a job was scheduled. If each job is scheduled by itself, waits for a while,
+    /// and records whether more than `IDLE_TURNS` turns were taken.
     pub(crate) fn look_on(&self) {
         if !matches!(self.way, Way::Apart) {
             return;
@@ -88,6 +90,7 @@ impl Watch {
         }
     }
 
+    /// Returns what the watch has seen.
     pub(crate) fn seen(&self) -> Seen {
         Seen {
             told: u32::try_from(self.told.load(Ordering::SeqCst)).ok(),
@@ -98,7 +101,7 @@ impl Watch {
     }
 }
 
-/// Looks so often at most, until the flag is raised.
+/// Looks at a flag until it is raised, at most the given number of times.
 pub(crate) fn wait_for(flag: &AtomicU64, looks: u64) {
     for _ in 0..looks {
         if flag.load(Ordering::SeqCst) == 1 {

@@ -1,4 +1,5 @@
-//! An event count at its last epochs, for pools to wait on.
+//! A wait point over an event count at its last epochs: a worker that has spent its epochs cannot
+//! sleep any more.
 ghost use Rattle.std.specs.Prelude.{◌≡◌};
 ghost use Rattle.event_count.specs.Seats.{card_of, sizes_of, seats_of, count_id, seat_id};
 
@@ -6,10 +7,10 @@ use event_count::{Committed, CountFault, EventCount, Seat, WaitPoint};
 use std::alloc::Global;
 use std::sync::Wait;
 
-/// The last epoch that a seat has.
+/// The last epoch that a seat can have.
 const LAST_EPOCH: u32 = 4_194_303;
 
-/// An event count each of whose waiters can go to sleep once.
+/// An event count at which each waiter can sleep once.
 #[derive(Drop)]
 pub(crate) struct Worn {
     count: EventCount,

@@ -51,7 +51,7 @@ one_from-back bounds vs (n ∷ ns) one is =
         subst (IsOne bounds vs (n ∷ ns)) same
         (record { numbers = rw (long, take-append-drop n ns) refl; values = refl; legal = both.1 })
 
--- the same of all tensors
+-- what is dealt of the dims of all tensors
 pub record IsAll (bounds : Bounds) (arrays : List (List ℤ)) (ns : List ℕ) (d : Dealing) : Type 0 where
   pub numbers : ns ≡ recorded_dims (dims_of_all d.tensors) d.rest
   pub values : values_of_all d.tensors ≡ arrays

@@ -1,4 +1,4 @@
--- Terms of which each is over tensors and over those of the terms before it.
+-- Terms that are evaluated in turn: each is over tensors and the tensors of the terms before it.
 use Rattle.std.specs.Prelude.{List, [], ◌∷◌, ◌++◌, map, IsOk}
 use Rattle.tensor_shape.specs.declared.bounds.Bounds.{Bounds}
 use Rattle.tensor_terms.specs.Contents.{Contents}
@@ -12,7 +12,7 @@ use Rattle.tensor_terms.specs.declared.expr.Expr.{Expr}
 abbrev pub terms_in : List Expr → List Term
 terms_in exprs = map term_of exprs
 
--- each has result dims within bounds, over tensors and those of the terms before it
+-- each term has result dims within bounds, over the tensors and the tensors of the terms before it
 abbrev pub HaveDims : Bounds → List Term → List Contents → Type 0
 HaveDims bounds [] tensors = Unit {0}
 HaveDims bounds (t ∷ ts) tensors =

@@ -1,4 +1,4 @@
--- The number of each operation, and how it stands with its arguments.
+-- The number of each operation in a record, and how a node begins.
 use Rattle.std.specs.Prelude.{ℕ, List, ◌∷◌, ◌++◌, length}
 use Rattle.tensor_ops.specs.LineOperation.{LineOperation}
 use Rattle.tensor_ops.specs.LineOperation.TheVariants.{Cumsum, Cumprod, Argmax, Argmin}
@@ -20,6 +20,7 @@ use Rattle.prepared_expressions.specs.declared.kind.BinaryKind.TheVariants.{Cont
 use Rattle.prepared_expressions.specs.declared.kind.Kind.{Kind}
 use Rattle.prepared_expressions.specs.declared.kind.Kind.TheVariants.{Input, One, Two, Select}
 
+-- the number of an operation on each value
 abbrev pub each_number : UnaryScalar → ℕ
 each_number one.Neg = 1
 each_number one.Abs = 2
@@ -27,6 +28,7 @@ each_number one.Square = 3
 each_number one.Not = 4
 each_number one.BitNot = 42
 
+-- the number of an operation on each two values at one place
 abbrev pub pairwise_number : BinaryScalar → ℕ
 pairwise_number two.Add = 5
 pairwise_number two.Sub = 6
@@ -49,6 +51,7 @@ pairwise_number two.BitXor = 41
 pairwise_number two.ShiftLeft = 43
 pairwise_number two.ShiftRight = 44
 
+-- the number of a reduction
 abbrev pub reducer_number : Reducer → ℕ
 reducer_number Sum = 29
 reducer_number Prod = 30
@@ -57,12 +60,14 @@ reducer_number Min = 32
 reducer_number All = 33
 reducer_number Any = 34
 
+-- the number of an operation along one axis
 abbrev pub line_number : LineOperation → ℕ
 line_number Cumsum = 45
 line_number Cumprod = 46
 line_number Argmax = 47
 line_number Argmin = 48
 
+-- the number of an operation on one operand
 abbrev pub unary_number : UnaryKind → ℕ
 unary_number (Each o) = each_number o
 unary_number Constant = 19
@@ -77,6 +82,7 @@ unary_number Pad = 27
 unary_number (Reduce r) = reducer_number r
 unary_number (Along o) = line_number o
 
+-- the number of an operation on two operands
 abbrev pub binary_number : BinaryKind → ℕ
 binary_number (Pairwise o) = pairwise_number o
 binary_number Concat = 28
@@ -84,13 +90,14 @@ binary_number Contract = 35
 binary_number Convolve = 36
 binary_number Take = 49
 
+-- the number of a node's kind
 abbrev pub number_of : Kind → ℕ
 number_of Input = 0
 number_of (One o) = unary_number o
 number_of (Two o) = binary_number o
 number_of Select = 18
 
--- an operation of a number and its arguments: the number, how many they are, and then they, before
--- what stands behind
+-- a node's head and the numbers after it: the operation's number, how many arguments there are, and
+-- the arguments
 abbrev pub headed : ℕ → List ℕ → List ℕ → List ℕ
 headed number arguments rest = number ∷ length arguments ∷ arguments ++ rest

@@ -1,4 +1,4 @@
--- A prepared expression, its record, and the arrays that are dealt to its inputs.
+-- A prepared expression, its record, and the arrays that give its inputs values.
 use Rattle.std.specs.Prelude.{◌≡◌, ◌⊎◌, ◌<◌, ◌≤◌, ◌^◌, ◌+◌, ◌&&◌, ◌==◌, ℕ, ℤ, Bool, true, List, []}
 use Rattle.std.specs.Prelude.{◌∷◌, ◌++◌, length}
 use Rattle.std.specs.Prelude.{IsTrue, Result, Ok, Err, if◌then◌else◌}
@@ -13,53 +13,54 @@ use Rattle.prepared_expressions.specs.Recorded.{recorded_all, height_of, HasRang
 use Rattle.prepared_expressions.specs.declared.refusal.Refusal.{Refusal}
 use Rattle.prepared_expressions.specs.declared.refusal.Refusal.TheVariants.{OtherArrays}
 
--- a term over inputs of these dims and over the tensors of bindings, each of which is over the inputs
--- and the tensors of those before it; and how large results get
+-- what is prepared: the bounds of results, the dims of the inputs, the bindings, and a term over
+-- the inputs and bindings. A binding is over the inputs and the bindings before it
 pub record Prepared : Type 0 where
   pub bounds : Bounds
   pub dims : List (List ℕ)
   pub bindings : List Term
   pub term : Term
 
--- its terms, each over all before it: those of its bindings, and then its own
+-- the terms of a prepared expression: its bindings, and then its own term
 abbrev pub terms_of : Prepared → List Term
 terms_of p = p.bindings ++ p.term ∷ []
 
--- the number that says how what stands behind it is written, where tensors have at most so many
--- elements: as many as those of a text, or more. 1 and 2 said how it was before there were bindings
+-- the form of a record, from the most elements of a tensor: 3 for the limit of texts, 4 for the
+-- limit of frames. Forms 1 and 2 had no bindings
 abbrev pub form_of : ℕ → ℕ
 form_of elements = if elements == text_elements then 3 else 4
 
--- dims, each with their rank before them
+-- the rank and the dims of each input, before other numbers
 abbrev pub recorded_dims : List (List ℕ) → List ℕ → List ℕ
 recorded_dims [] rest = rest
 recorded_dims (d ∷ ds) rest = length d ∷ d ++ recorded_dims ds rest
 
--- the record: all its numbers
+-- all numbers of the record of a prepared expression
 abbrev pub record_of : Prepared → List ℕ
 record_of p =
     form_of p.bounds.elements ∷ p.bounds.rank ∷ length p.dims ∷ length p.bindings
     ∷ recorded_dims p.dims (recorded_all (terms_of p) [])
 
--- the most nodes one below the other
+-- the most nodes of an expression that lie one below the other
 abbrev pub greatest_height : ℕ
 greatest_height = 127
 
+-- all dims are legal within bounds
 abbrev pub all_legal : Bounds → List (List ℕ) → Bool
 all_legal bounds [] = true
 all_legal bounds (d ∷ ds) = are_legal bounds d && all_legal bounds ds
 
--- bounds that a record can say
+-- the bounds that a record can have
 pub record IsRecordable (bounds : Bounds) : Type 0 where
   pub rank : (bounds.rank ≡ 6) ⊎ (bounds.rank ≡ 8)
   pub elements : (bounds.elements ≡ text_elements) ⊎ (bounds.elements ≡ most_elements)
 
--- a term that a record can say
+-- a term that a record can have
 pub record IsWritable (t : Term) : Type 0 where
   pub ranges : HasRanges t
   pub height : height_of t ≤ greatest_height
 
--- what may be prepared
+-- an expression that can be prepared
 pub record IsPrepared (p : Prepared) : Type 0 where
   pub bounds : IsRecordable p.bounds
   pub few : length p.dims + length p.bindings < 2 ^ 32
@@ -67,16 +68,17 @@ pub record IsPrepared (p : Prepared) : Type 0 where
   pub inputs : IsTrue (have_inputs (terms_of p) (length p.dims))
   pub writable : All IsWritable (terms_of p)
 
--- the dims of tensors, and their values
+-- the dims of each tensor
 abbrev pub dims_of_all : List Contents → List (List ℕ)
 dims_of_all [] = []
 dims_of_all (t ∷ ts) = t.dims ∷ dims_of_all ts
 
+-- the values of each tensor
 abbrev pub values_of_all : List Contents → List (List ℤ)
 values_of_all [] = []
 values_of_all (t ∷ ts) = t.values ∷ values_of_all ts
 
--- what is prepared of a term over inputs and the tensors of bindings
+-- what is prepared of a term over inputs and bindings
 abbrev pub prepared : Given → List Term → Term → Prepared
 prepared inputs bindings t = record {
   bounds = inputs.bounds;
@@ -85,12 +87,13 @@ prepared inputs bindings t = record {
   term = t;
 }
 
--- one tensor more before those that were dealt
+-- one more tensor before the others, if they have no refusal
 abbrev pub before : Contents → Result (List Contents) Refusal → Result (List Contents) Refusal
 before t (Ok ts) = Ok (t ∷ ts)
 before t (Err f) = Err f
 
--- an array a dims, as long as these say
+-- the inputs with the values of the arrays. There must be one array for each, with as many values
+-- as its dims have places
 abbrev pub dealt : List (List ℕ) → List (List ℤ) → Result (List Contents) Refusal
 dealt [] [] = Ok []
 dealt [] (vs ∷ arrays) = Err OtherArrays

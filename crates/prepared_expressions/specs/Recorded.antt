@@ -1,4 +1,4 @@
--- How an expression is written as numbers: each operation with its arguments before its operands.
+-- An expression as numbers: the head of each node before its operands.
 use Rattle.std.specs.Prelude.{ℕ, ◌+◌, max, List, [], ◌∷◌, ◌++◌, length, map, Bool, true, false}
 use Rattle.std.specs.Prelude.{FitsSigned}
 use Rattle.std.specs.Int.{w64, cast_unsigned}
@@ -19,7 +19,7 @@ use Rattle.prepared_expressions.specs.declared.kind.BinaryKind.TheVariants.{Cont
 use Rattle.prepared_expressions.specs.declared.kind.Kind.TheVariants.{Input, One, Two, Select}
 use Rattle.prepared_expressions.specs.Numbers.{number_of, headed}
 
--- the kinds of operations
+-- the kind of a movement
 abbrev pub movement_kind : Movement → UnaryKind
 movement_kind (broadcast counts) = Broadcast
 movement_kind (slice offsets extents) = Slice
@@ -29,6 +29,7 @@ movement_kind (chip offset axis) = Chip
 movement_kind (reverse flags) = Reverse
 movement_kind (stride steps) = Stride
 
+-- the kind of an operation on one operand
 abbrev pub unary_kind : Unary → UnaryKind
 unary_kind (each o) = Each o
 unary_kind (constant v) = Constant
@@ -37,6 +38,7 @@ unary_kind (pad pairs) = Pad
 unary_kind (reduce r axes) = Reduce r
 unary_kind (along o axis) = Along o
 
+-- the kind of an operation on two operands
 abbrev pub binary_kind : Binary → BinaryKind
 binary_kind (pairwise o) = Pairwise o
 binary_kind (concat axis) = Concat
@@ -44,16 +46,17 @@ binary_kind (contract pairs) = Contract
 binary_kind (convolve axes) = Convolve
 binary_kind (taking axis) = Take
 
--- a flag is 1 or 0; pairs stand one behind the other
+-- a flag as a number
 abbrev pub flag_number : Bool → ℕ
 flag_number true = 1
 flag_number false = 0
 
+-- pairs as numbers, one pair after the other
 abbrev pub pair_numbers : List (ℕ × ℕ) → List ℕ
 pair_numbers [] = []
 pair_numbers (p ∷ ps) = p.0 ∷ p.1 ∷ pair_numbers ps
 
--- the arguments of operations as numbers; of two lists the first has its length before it
+-- the arguments of a movement as numbers; of two lists, the first has its length before it
 abbrev pub movement_numbers : Movement → List ℕ
 movement_numbers (broadcast counts) = counts
 movement_numbers (slice offsets extents) = length offsets ∷ offsets ++ extents
@@ -63,6 +66,7 @@ movement_numbers (chip offset axis) = offset ∷ axis ∷ []
 movement_numbers (reverse flags) = map flag_number flags
 movement_numbers (stride steps) = steps
 
+-- the arguments of an operation on one operand as numbers
 abbrev pub unary_numbers : Unary → List ℕ
 unary_numbers (each o) = []
 unary_numbers (constant v) = cast_unsigned w64 v ∷ []
@@ -71,6 +75,7 @@ unary_numbers (pad pairs) = pair_numbers pairs
 unary_numbers (reduce r axes) = axes
 unary_numbers (along o axis) = axis ∷ []
 
+-- the arguments of an operation on two operands as numbers
 abbrev pub binary_numbers : Binary → List ℕ
 binary_numbers (pairwise o) = []
 binary_numbers (concat axis) = axis ∷ []
@@ -78,7 +83,7 @@ binary_numbers (contract pairs) = pair_numbers pairs
 binary_numbers (convolve axes) = axes
 binary_numbers (taking axis) = axis ∷ []
 
--- the numbers of a term, before what stands behind them
+-- the numbers of a term, before other numbers
 abbrev pub recorded : Term → List ℕ → List ℕ
 recorded (input n) rest = headed (number_of Input) (n ∷ []) rest
 recorded (unary o a) rest =
@@ -88,19 +93,19 @@ recorded (binary o a b) rest =
 recorded (ternary select a b c) rest =
     headed (number_of Select) [] (recorded a (recorded b (recorded c rest)))
 
--- the same of terms, one behind the other
+-- the numbers of terms, one term after the other, before other numbers
 abbrev pub recorded_all : List Term → List ℕ → List ℕ
 recorded_all [] rest = rest
 recorded_all (t ∷ ts) rest = recorded t (recorded_all ts rest)
 
--- how many nodes stand one below the other
+-- how many nodes of a term lie one below the other
 abbrev pub height_of : Term → ℕ
 height_of (input n) = 1
 height_of (unary o a) = 1 + height_of a
 height_of (binary o a b) = 1 + max (height_of a) (height_of b)
 height_of (ternary o a b c) = 1 + max (height_of a) (max (height_of b) (height_of c))
 
--- constants are of the i64 range
+-- the constant of an operation is of the i64 range
 abbrev pub HasRange : Unary → Type 0
 HasRange (each o) = Unit {0}
 HasRange (constant v) = FitsSigned w64 v
@@ -109,6 +114,7 @@ HasRange (pad pairs) = Unit {0}
 HasRange (reduce r axes) = Unit {0}
 HasRange (along o axis) = Unit {0}
 
+-- all constants of a term are of the i64 range
 abbrev pub HasRanges : Term → Type 0
 HasRanges (input n) = Unit {0}
 HasRanges (unary o a) = HasRange o × HasRanges a

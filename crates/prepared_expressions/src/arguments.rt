@@ -1,4 +1,5 @@
-//! Operations made of numbers: their kinds, and their arguments.
+//! Builds operations from their kinds and the numbers of their arguments. It is the inverse of
+//! `written.rt`; `specs/private/Made` says which numbers make which operation.
 
 ghost use Rattle.std.specs.Prelude.{◌≡◌, option_map, MatchResult};
 ghost use Rattle.tensor_terms.specs.Term.{unary, binary, ternary, select};
@@ -12,7 +13,8 @@ use crate::refusal::Refusal;
 use std::alloc::Global;
 use tensor_terms::Expr;
 
-/// The operation of this kind and with these arguments on an operand.
+/// Builds an operation of this kind with these arguments, on one operand. `NoRecord` if the numbers
+/// are no arguments of this kind.
 pub(crate) fn unary_over(
     alloc: Global,
     kind: UnaryKind,
@@ -48,7 +50,8 @@ pub(crate) fn unary_over(
     })
 }
 
-/// The operation of this kind and with these arguments on two operands.
+/// Builds an operation of this kind with these arguments, on two operands. `NoRecord` if the
+/// numbers are no arguments of this kind.
 pub(crate) fn binary_over(
     alloc: Global,
     kind: BinaryKind,
@@ -73,7 +76,7 @@ pub(crate) fn binary_over(
     }
 }
 
-/// The choice between two operands by another. It has no arguments.
+/// Builds the choice between `first` and `second` by `choice`. `NoRecord` if there is an argument.
 pub(crate) fn select_over(
     alloc: Global,
     arguments: &[u64],
@@ -90,7 +93,8 @@ pub(crate) fn select_over(
     alone(Expr::Select(choice, first, second), arguments)
 }
 
-/// The input of this number, which is below that of the inputs.
+/// Builds the input whose number is the only argument. `NoRecord` if the number is not below
+/// `inputs`.
 pub(crate) fn input_of(arguments: &[u64], inputs: u32) -> Result<Expr, Refusal>
     ensures { IsMadeOr term_of (input_from inputs arguments.now) result }
 {
@@ -101,7 +105,7 @@ pub(crate) fn input_of(arguments: &[u64], inputs: u32) -> Result<Expr, Refusal>
     Ok(Expr::Input(number as u32))
 }
 
-/// An operand in memory of its own.
+/// Allocates a box for an operand.
 fn boxed(alloc: Global, expr: Expr) -> Result<Box<Expr>, Refusal>
     ensures { MatchResult result (λ b. b.value ≡ expr) (λ f. f ≡ Refusal.NoMemory) }
 {
@@ -111,7 +115,7 @@ fn boxed(alloc: Global, expr: Expr) -> Result<Box<Expr>, Refusal>
     }
 }
 
-/// This, where no number stands beside it.
+/// Returns `item`, or `NoRecord` if there is a number.
 pub(crate) fn alone<T: Drop>(item: T, numbers: &[u64]) -> Result<T, Refusal>
     ensures { IsMadeOr (λ x. x) (of_none item numbers.now) result }
 {
@@ -121,7 +125,7 @@ pub(crate) fn alone<T: Drop>(item: T, numbers: &[u64]) -> Result<T, Refusal>
     }
 }
 
-/// The only number.
+/// Returns the only number, or `NoRecord` if there is not exactly one.
 fn one_number(numbers: &[u64]) -> Result<u64, Refusal>
     ensures { IsMadeOr (λ n. n) (one_in numbers.now) result }
 {
@@ -131,7 +135,7 @@ fn one_number(numbers: &[u64]) -> Result<u64, Refusal>
     }
 }
 
-/// The two numbers.
+/// Returns the two numbers, or `NoRecord` if there are not exactly two.
 fn two_numbers(numbers: &[u64]) -> Result<(u64, u64), Refusal>
     ensures { IsMadeOr (λ p. p) (two_in numbers.now) result }
 {
@@ -141,7 +145,8 @@ fn two_numbers(numbers: &[u64]) -> Result<(u64, u64), Refusal>
     }
 }
 
-/// Two lists, of which the first has its length before it.
+/// Returns two lists. The first number is the length of the first list; the second list is what is
+/// left.
 fn two_lists(numbers: &[u64]) -> Result<(&[u64], &[u64]), Refusal>
     ensures { IsMadeOr (λ p. (p.0.now, p.1.now)) (lists_in numbers.now) result }
 {
@@ -154,7 +159,7 @@ fn two_lists(numbers: &[u64]) -> Result<(&[u64], &[u64]), Refusal>
     Ok(both.split_at(*count as usize))
 }
 
-/// Flags, each 1 or 0.
+/// Reads flags. Each number is 1 or 0.
 fn read_flags(alloc: Global, numbers: &[u64]) -> Result<Vec<bool>, Refusal>
     ensures { IsMadeOr (λ flags. flags.items) (flags_in numbers.now) result }
 {
@@ -170,7 +175,7 @@ fn read_flags(alloc: Global, numbers: &[u64]) -> Result<Vec<bool>, Refusal>
     Ok(flags)
 }
 
-/// A flag, 1 or 0.
+/// Reads a flag: 1 is true, 0 is false.
 fn read_flag(number: u64) -> Result<bool, Refusal>
     ensures { IsMadeOr (λ flag. flag) (flag_in number) result }
 {
@@ -181,7 +186,7 @@ fn read_flag(number: u64) -> Result<bool, Refusal>
     }
 }
 
-/// Pairs, one behind the other.
+/// Reads pairs that follow one another. `NoRecord` if one number is left.
 fn read_pairs(alloc: Global, numbers: &[u64]) -> Result<Vec<(u64, u64)>, Refusal>
     ensures { IsMadeOr (λ pairs. pairs.items) (pairs_in numbers.now) result }
 {

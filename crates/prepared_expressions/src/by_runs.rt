@@ -1,4 +1,5 @@
-//! Which reductions are worked out run by run, with no list of what they combine.
+//! Chooses the reductions that are evaluated run by run, without a list of the values that they
+//! combine. The choice changes time and memory only, no value.
 
 ghost use Rattle.std.specs.Prelude.{length, IsTrue};
 ghost use Rattle.tensor_ops.specs.Parts.{has_parts};
@@ -8,9 +9,9 @@ ghost use Rattle.tensor_ops.specs.Tree.{term_of};
 use tensor_ops::{Binary, Expr, Inputs, Node, Unary};
 use tensor_terms::all_among;
 
-/// Whether an expression is a reduction along the first axes of an operation on values. These lie in
-/// runs then, and a `PartEvaluator` combines them as they are worked out, where a `TensorEvaluator`
-/// lists all of them first.
+/// Returns whether an expression is a reduction along the first axes of an element-wise operation.
+/// The values that it combines into one then lie in a run, and a `PartEvaluator` combines them as
+/// it computes them. A `TensorEvaluator` would first store all of them.
 pub(crate) fn combines_an_operation(expr: &Expr, inputs: &Inputs) -> bool
     requires { IsTrue (has_inputs (term_of expr.now) (length inputs.now.tensors)) }
     ensures { IsTrue result → IsTrue (has_parts (term_of expr.now)) }
@@ -24,7 +25,8 @@ pub(crate) fn combines_an_operation(expr: &Expr, inputs: &Inputs) -> bool
     is_on_values(operand) && come_first(all_among(axes, dims.rank()).as_slice())
 }
 
-/// Whether the last operation of an expression is one on the values at a place.
+/// Returns whether the last operation of an expression is element-wise: each value is computed from
+/// the operands' values at its own place.
 fn is_on_values(expr: &Expr) -> bool {
     match expr.node() {
         Node::Unary(Unary::Each(_), _)
@@ -34,7 +36,7 @@ fn is_on_values(expr: &Expr) -> bool {
     }
 }
 
-/// Whether these axes, in ascending order, are the first ones.
+/// Returns whether these axes, in ascending order, are the first axes: 0, 1, 2 and so on.
 fn come_first(axes: &[u64]) -> bool {
     axes.iter().enumerate().all(|(k, axis)| *axis == k as u64)
 }

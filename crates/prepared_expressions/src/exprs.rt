@@ -1,4 +1,5 @@
-//! Several expressions read from the numbers that record them, one behind the other.
+//! Reads several expressions whose numbers follow one another: the bindings, and then the
+//! expression. `written.rt` writes them.
 
 ghost use Rattle.std.specs.Prelude.{◌≡◌, ◌<◌, ◌+◌, ◌^◌, ◌++◌, ◌∷◌, [], List, length, IfOk, IsTrue};
 ghost use Rattle.tensor_terms.specs.Tree.{term_of};
@@ -13,22 +14,22 @@ use crate::tree::{MAX_HEIGHT, read_tree};
 use std::alloc::Global;
 use tensor_terms::Expr;
 
-/// Expressions, and the numbers behind those that record them.
+/// Expressions that were read, and the numbers after them.
 #[derive(Drop)]
 pub(crate) struct ReadAll<'a> {
     pub(crate) exprs: Vec<Expr>,
     pub(crate) rest: &'a [u64],
 }
 
-/// Bindings, and the expression over their tensors.
+/// The bindings of a record, and the expression over their tensors.
 #[derive(Drop)]
 pub(crate) struct Exprs {
     pub(crate) bindings: Vec<Expr>,
     pub(crate) expr: Expr,
 }
 
-/// So many bindings and the expression behind them, over so many inputs. They are all that the
-/// numbers record.
+/// Reads `bindings` bindings and the expression after them, over `inputs` inputs. `NoRecord` if
+/// numbers are left.
 pub(crate) fn read_exprs(
     alloc: Global,
     numbers: &[u64],
@@ -52,8 +53,8 @@ pub(crate) fn read_exprs(
     })
 }
 
-/// So many expressions that stand first, one behind the other: each over so many inputs and the
-/// tensors of those before it.
+/// Reads `count` expressions from the first numbers. Each is over `inputs` inputs and the tensors
+/// of the expressions before it.
 fn read_trees<'a>(
     alloc: Global,
     numbers: &'a [u64],

@@ -1,4 +1,5 @@
-//! What stands first in the numbers of a node: its operation and the arguments.
+//! The head of a node in a record: the number of its operation, the number of its arguments, and
+//! the arguments. `write_head` in `written.rt` writes it.
 
 ghost use Rattle.std.specs.Prelude.{◌≡◌, ◌≢◌, ℕ, List, IfSome, IfNone};
 ghost use Rattle.prepared_expressions.specs.declared.kind.Kind.{Kind};
@@ -6,7 +7,7 @@ ghost use Rattle.prepared_expressions.specs.Numbers.{number_of, headed};
 
 use crate::kind::Kind;
 
-/// An operation and its arguments, and what stands behind them.
+/// The operation of a node, its arguments, and the numbers after them.
 #[derive(Clone, Copy)]
 pub(crate) struct Head<'a> {
     pub(crate) kind: Kind,
@@ -14,7 +15,8 @@ pub(crate) struct Head<'a> {
     pub(crate) rest: &'a [u64],
 }
 
-/// The operation and the arguments that stand first.
+/// Reads the head of the node that begins with the first number. `None` if the operation is
+/// unknown, or if there are fewer numbers than arguments.
 pub(crate) fn read_head(numbers: &[u64]) -> Option<Head<'_>>
     ensures found { IfSome result (λ head. numbers.now
         ≡ headed (number_of head.kind) head.arguments.now head.rest.now) }

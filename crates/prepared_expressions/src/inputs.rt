@@ -1,4 +1,5 @@
-//! The inputs of a record, over arrays.
+//! Reads the dims of the inputs of a record, and gives each input the values of an array.
+//! `specs/private/Dealing` defines this; `write_dims` in `prepared.rt` writes the dims.
 
 ghost use Rattle.std.specs.Prelude.{◌≡◌, ◌⊎◌, ◌≤◌, Ok, Err, IfOk, MatchResult, length};
 ghost use Rattle.expr_reader.specs.Arrays.{arrays_under};
@@ -11,21 +12,22 @@ use std::alloc::Global;
 use tensor_shape::{Bounds, Dims};
 use tensor_terms::Tensor;
 
-/// Tensors, and the numbers behind those that say their dims.
+/// The tensors of the inputs, and the numbers after their dims.
 #[derive(Drop)]
 pub(crate) struct Dealt<'n, 'a> {
     pub(crate) tensors: Vec<Tensor<'a>>,
     pub(crate) rest: &'n [u64],
 }
 
-/// A tensor, and the numbers behind those that say its dims.
+/// The tensor of one input, and the numbers after its dims.
 #[derive(Drop)]
 pub(crate) struct DealtOne<'n, 'a> {
     pub(crate) tensor: Tensor<'a>,
     pub(crate) rest: &'n [u64],
 }
 
-/// The tensor of each array. Their dims stand first among the numbers.
+/// Makes the tensor of each array. Its dims are read from the first numbers, in the order of the
+/// arrays.
 pub(crate) fn read_tensors<'n, 'a>(
     alloc: Global,
     bounds: Bounds,
@@ -51,7 +53,8 @@ pub(crate) fn read_tensors<'n, 'a>(
     Ok(Dealt { tensors, rest })
 }
 
-/// The tensor of these values. Its dims stand first among the numbers.
+/// Makes a tensor that borrows these values. Its dims are read from the first numbers: a rank, and
+/// then the dimensions.
 fn read_tensor<'n, 'a>(
     bounds: Bounds,
     numbers: &'n [u64],

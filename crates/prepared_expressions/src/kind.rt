@@ -1,4 +1,6 @@
-//! The operations without their arguments, and their numbers.
+//! The operations without their arguments, and the number of each in a record. A new operation
+//! needs the next number, here and in `specs/Numbers`; a changed number needs a new form in
+//! `prepared.rt`.
 
 ghost use Rattle.std.specs.Prelude.{◌≡◌, ◌≢◌, ◌<◌, IfSome, IfNone};
 ghost use Rattle.prepared_expressions.specs.declared.kind.Kind.{Kind};
@@ -34,7 +36,7 @@ pub(crate) enum BinaryKind {
     Take,
 }
 
-/// What stands at a node, by the number of its operands.
+/// What a node of an expression is: an input, or an operation with one, two or three operands.
 #[derive(Clone, Copy)]
 pub(crate) enum Kind {
     Input,
@@ -44,7 +46,7 @@ pub(crate) enum Kind {
 }
 
 impl Kind {
-    /// Its number in a record.
+    /// Returns the number of this kind in a record.
     pub(crate) fn number(self) -> u64
         ensures { result ≡ number_of self }
     {
@@ -56,7 +58,7 @@ impl Kind {
         }
     }
 
-    /// The one of a number.
+    /// Returns the kind with this number.
     pub(crate) fn of(number: u64) -> Option<Kind>
         ensures known { IfSome result (λ kind. number_of kind ≡ number) }
         ensures unknown { IfNone result ((kind : Kind) → number_of kind ≢ number) }
@@ -98,8 +100,8 @@ impl Kind {
         })
     }
 
-    /// The one of a greater number: a reduction, a product, or an operation on whole numbers or
-    /// along an axis.
+    /// Returns the kind with a number above 28: a reduction, a contraction or convolution, or an
+    /// operation of version 3.
     fn later(number: u64) -> Option<Kind>
         requires { 28 < number }
         ensures known { IfSome result (λ kind. number_of kind ≡ number) }
@@ -135,7 +137,7 @@ impl Kind {
 impl UnaryKind {
     ghost use Rattle.prepared_expressions.specs.Numbers.{unary_number};
 
-    /// Its number in a record.
+    /// Returns the number of this kind in a record.
     pub(crate) fn number(self) -> u64
         ensures { result ≡ unary_number self }
     {
@@ -171,7 +173,7 @@ impl UnaryKind {
 impl BinaryKind {
     ghost use Rattle.prepared_expressions.specs.Numbers.{binary_number};
 
-    /// Its number in a record.
+    /// Returns the number of this kind in a record.
     pub(crate) fn number(self) -> u64
         ensures { result ≡ binary_number self }
     {

@@ -1,5 +1,7 @@
-//! Prepared expressions: an expression and the dims of its inputs, written as numbers once they
-//! were read and checked, and worked out over arrays again and again.
+//! Prepared expressions: an expression and the dims of its inputs, checked once and written as
+//! numbers (a record), which is then evaluated over arrays again and again. `tensor_c` is its only
+//! caller in this repository. The format of a record is `specs/Prepared`, `Numbers` and `Recorded`;
+//! the writer (`written.rt`) and the reader (`tree.rt`) change together.
 #![tactic(auto)]
 
 mod arguments;

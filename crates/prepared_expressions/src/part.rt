@@ -1,5 +1,5 @@
-//! The values of an expression over inputs that have values, written where they are wanted, or as a
-//! tensor.
+//! The entry points that evaluate a prepared expression over its inputs: into the caller's memory,
+//! or as a tensor.
 
 ghost use Rattle.std.specs.Prelude.{◌≡◌, ◌⊎◌, length, IfOk, IfErr};
 ghost use Rattle.tensor_ops.specs.Tree.{term_of};
@@ -14,10 +14,14 @@ use crate::worked_out::WorkedOut;
 use std::alloc::Global;
 use tensor_ops::Tensor;
 
-/// Writes values of the expression over its tensors, from the one at a place on, as many as there
-/// are and as `out` has room for, and answers how many. So calls from several threads, each with a
-/// list of its own, share one answer; each works out the bindings anew. Want of memory leaves
-/// anything in `out`.
+/// Evaluates the bindings, and then writes values of the expression to `out`, the value at place
+/// `first` first. It writes as many as there are from there on, and as fit, and returns how many.
+/// Threads that call it with different places and lists share one answer; each evaluates the
+/// bindings for itself.
+///
+/// # Errors
+///
+/// [`Refusal::NoMemory`], after which `out` may have any values, or [`Refusal::NoDims`].
 pub fn fill_from(
     alloc: Global,
     filled: &Filled<'_>,
@@ -35,7 +39,11 @@ pub fn fill_from(
     tensors.fill(&filled.expr, first, out)
 }
 
-/// The tensor of the expression over its tensors.
+/// Evaluates the bindings, and then the whole tensor of the expression.
+///
+/// # Errors
+///
+/// [`Refusal::NoMemory`] or [`Refusal::NoDims`].
 pub fn eval_filled(alloc: Global, filled: &Filled<'_>) -> Result<Tensor<'static>, Refusal>
     ensures tensor { IfOk result (λ t.
         t ≡ tensor_of (term_of filled.now.expr) (tensors_under filled.now)) }

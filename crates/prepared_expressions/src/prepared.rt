@@ -1,4 +1,6 @@
-//! Prepared expressions: written as a record, and read again over arrays.
+//! Writes a prepared expression as a record, and reads a record over arrays. A record begins with
+//! its form; another layout of records takes a new form, so that a record of an old build is
+//! refused.
 
 ghost use Rattle.std.specs.Prelude.{◌≡◌, ◌≢◌, ◌⊎◌, ◌<◌, ◌+◌, ◌^◌, ◌++◌, ◌∷◌, ℕ, List};
 ghost use Rattle.std.specs.Prelude.{IsTrue, IfOk, OnOk, IfSome, IfNone};
@@ -20,14 +22,19 @@ use std::alloc::Global;
 use tensor_shape::{Bounds, Dims, MAX_ELEMENTS, TEXT_ELEMENTS};
 use tensor_terms::Inputs;
 
-/// The number that stands first in a record, and says how what stands behind it is written, where
-/// tensors have at most as many elements as those of a text.
+/// The form of a record whose tensors have at most [`TEXT_ELEMENTS`] elements. A record begins with
+/// its form.
 const TEXT_FORM: u64 = 3;
 
-/// The same where they have as many as they may.
+/// The form of a record whose tensors have at most [`MAX_ELEMENTS`] elements.
 const WIDE_FORM: u64 = 4;
 
-/// The record of an expression over inputs and bindings. The values of the inputs are no part of it.
+/// Writes the record of an expression over inputs and bindings. The values of the inputs are not
+/// part of it.
+///
+/// # Errors
+///
+/// [`Refusal::TooLarge`] if the expression does not fit in a record, or [`Refusal::NoMemory`].
 pub fn prepare(alloc: Global, filled: &Filled<'_>) -> Result<Vec<u64>, Refusal>
     ensures numbers { IfOk result (λ numbers.
         numbers.items ≡ record_of (prepared_under filled.now)) }
@@ -46,7 +53,7 @@ pub fn prepare(alloc: Global, filled: &Filled<'_>) -> Result<Vec<u64>, Refusal>
     Ok(numbers)
 }
 
-/// Puts the dims of all inputs, each with their rank before them, behind what is there.
+/// Appends the rank and the dims of each input.
 fn write_dims(numbers: &mut Vec<u64>, inputs: &Inputs<'_>, bounds: Bounds) -> Result<(), Refusal>
     requires { IsPossible bounds }
     ensures numbers { OnOk result ((rest : List ℕ) → numbers.new.items ++ rest
@@ -63,7 +70,12 @@ fn write_dims(numbers: &mut Vec<u64>, inputs: &Inputs<'_>, bounds: Bounds) -> Re
     Ok(())
 }
 
-/// The expression of a record, over arrays: one for each input, as long as its dims say.
+/// Reads a record over arrays, one for each input, with as many values as the input's dims have
+/// places.
+///
+/// # Errors
+///
+/// [`Refusal::NoRecord`], [`Refusal::OtherArrays`] or [`Refusal::NoMemory`].
 pub fn read_over<'a>(
     alloc: Global,
     numbers: &[u64],
@@ -89,7 +101,8 @@ pub fn read_over<'a>(
     })
 }
 
-/// What stands first in a record: how large results get, and the numbers of inputs and of bindings.
+/// The first numbers of a record: the bounds of results, and how many inputs and bindings there
+/// are; and the numbers after them.
 #[derive(Clone, Copy)]
 struct Start<'n> {
     bounds: Bounds,
@@ -98,7 +111,7 @@ struct Start<'n> {
     rest: &'n [u64],
 }
 
-/// What stands first in a record.
+/// Reads the first numbers of a record.
 fn read_start(numbers: &[u64]) -> Option<Start<'_>>
     ensures found { IfSome result (λ s. numbers.now
         ≡ form_of s.bounds.elements ∷ s.bounds.rank ∷ s.inputs ∷ s.bindings ∷ s.rest.now) }
@@ -126,7 +139,7 @@ fn read_start(numbers: &[u64]) -> Option<Start<'_>>
     })
 }
 
-/// The form of a record with these bounds, which are those that a record can say.
+/// Returns the form of a record with these bounds. `None` if no record has such bounds.
 fn form_of(bounds: Bounds) -> Option<u64>
     ensures form { IfSome result (λ form. form ≡ form_of bounds.elements) }
     ensures bounds { IfSome result (λ form. IsRecordable bounds) }
@@ -141,7 +154,7 @@ fn form_of(bounds: Bounds) -> Option<u64>
     }
 }
 
-/// How many elements tensors have at most, by the form of a record.
+/// Returns how many elements a tensor may have in a record of this form.
 fn elements_of(form: u64) -> Option<u64>
     ensures form { IfSome result (λ elements. form_of elements ≡ form) }
     ensures elements { IfSome result (λ elements.

@@ -1,24 +1,27 @@
-//! Why numbers are not worked out.
+//! Why an expression is not prepared, or a record is not evaluated. `tensor_c` turns each into the
+//! result of a call (`refusal_result` in `specs/Plan` there).
 
 use std::alloc::AllocError;
 use thiserror::Error;
 
-/// Why an expression is not written as numbers, or why numbers are not worked out over arrays.
+/// Why an expression can't be written as numbers, or why numbers can't be evaluated over arrays.
 #[derive(Clone, Copy, Debug, Drop, Eq, PartialEq, Error)]
 pub enum Refusal {
-    /// There is no memory.
+    /// An allocation failed.
     #[error("there is no memory")]
     NoMemory = 1,
-    /// The numbers are no record of an expression.
+    /// The numbers are not the record of an expression.
     #[error("the numbers are no record of an expression")]
     NoRecord = 2,
-    /// The expression is past what a record may hold.
+    /// The expression does not fit in a record.
     #[error("the expression is past what a record may hold")]
     TooLarge = 3,
-    /// The arrays are not as many, or not as long, as those that the expression was prepared for.
+    /// There are more or fewer arrays than inputs, or an array has more or fewer values than its
+    /// input.
     #[error("the arrays are not those of the expression")]
     OtherArrays = 4,
-    /// The expression has no result dims. One that was prepared after its check has some.
+    /// The expression has no result dims. This can't happen if its dims were checked before it was
+    /// prepared.
     #[error("the expression has no result dims")]
     NoDims = 5,
 }

@@ -1,4 +1,5 @@
-//! Expressions read from the numbers that record them.
+//! Reads an expression from the numbers that record it. `write_tree` in `written.rt` writes them,
+//! and `specs/Recorded` defines them.
 
 ghost use Rattle.std.specs.Prelude.{◌≡◌, IfOk, IsTrue};
 ghost use Rattle.tensor_terms.specs.Term.{has_inputs};
@@ -13,17 +14,18 @@ use crate::refusal::Refusal;
 use std::alloc::Global;
 use tensor_terms::Expr;
 
-/// The most nodes that stand one below the other.
+/// The most nodes of an expression that lie one below the other. It limits the recursion.
 pub(crate) const MAX_HEIGHT: u32 = 127;
 
-/// An expression, and the numbers behind those that record it.
+/// An expression that was read, and the numbers after it.
 #[derive(Drop)]
 pub(crate) struct Read<'a> {
     pub(crate) expr: Expr,
     pub(crate) rest: &'a [u64],
 }
 
-/// The expression that stands first, over so many inputs, where it is of at most this height.
+/// Reads the expression that the first numbers record, over `inputs` tensors. `NoRecord` if more
+/// than `height` of its nodes lie one below the other.
 pub(crate) fn read_tree<'a>(
     alloc: Global,
     numbers: &'a [u64],

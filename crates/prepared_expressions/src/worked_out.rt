@@ -1,4 +1,5 @@
-//! The tensors that an expression is over: inputs, and behind them those of bindings, worked out.
+//! Evaluates the bindings of a prepared expression, and then the expression over the inputs and
+//! their tensors. `by_runs.rt` chooses how a reduction is evaluated.
 
 ghost use Rattle.std.specs.Prelude.{◌≡◌, ◌⊎◌, ◌<◌, ◌≤◌, ◌+◌, ◌-◌, ◌^◌, min, length};
 ghost use Rattle.std.specs.Prelude.{IsTrue, IsOk, IsErr, IfOk, IfErr, OnOk};
@@ -17,8 +18,8 @@ use crate::refusal::Refusal;
 use std::alloc::{AllocError, Global};
 use tensor_ops::{Expr, Inputs, PartEvaluator, Tensor, TensorEvaluator, eval_plain};
 
-/// Inputs, whose values are lent, and behind them the tensors of bindings. Results over them may be
-/// as large as any.
+/// The inputs, whose values are borrowed, and after them the tensors of the bindings. Results over
+/// them may have as many elements as any tensor may.
 #[derive(Drop)]
 pub(crate) struct WorkedOut<'a> {
     alloc: Global,
@@ -26,7 +27,7 @@ pub(crate) struct WorkedOut<'a> {
 }
 
 impl<'a> WorkedOut<'a> {
-    /// The tensors of an expression: of the bindings each is worked out once, over all before it.
+    /// Evaluates each binding once, over the inputs and the bindings before it.
     pub(crate) fn of(alloc: Global, filled: &'a Filled<'_>) -> Result<WorkedOut<'a>, Refusal>
         ensures tensors { IfOk result (λ r. r.tensors.tensors ≡ tensors_under filled.now) }
         ensures refused { IfErr result (λ f. (f ≡ Refusal.NoMemory) ⊎ ((f ≡ Refusal.NoDims)
@@ -38,7 +39,7 @@ impl<'a> WorkedOut<'a> {
             filled.now.inputs.tensors
             → IsOk (dims_of r.tensors.bounds (term_of filled.now.expr) r.tensors.tensors)) }
     {
-        // Says that dims can go as far as the inputs' bounds.
+        // Called for its clause: dims can go as far as the inputs' bounds.
         let _limit = filled.inputs.bounds();
         let mut tensors = filled.inputs.lent(alloc)?.widened();
         for binding in &filled.bindings {
@@ -51,8 +52,9 @@ impl<'a> WorkedOut<'a> {
         Ok(WorkedOut { alloc, tensors })
     }
 
-    /// Writes values of an expression over them, from the one at a place on, as many as there are and
-    /// as `out` has room for, and answers how many. Want of memory leaves anything in `out`.
+    /// Writes values of an expression over these tensors to `out`, the value at place `first`
+    /// first. It writes as many as there are from there on, and as fit, and returns how many. If an
+    /// allocation fails, `out` may have any values.
     pub(crate) fn fill(&self, expr: &Expr, first: u64, out: &mut [i64]) -> Result<usize, Refusal>
         requires { IsTrue (has_inputs (term_of expr.now) (length self.now.tensors.tensors)) }
         ensures len { length out.new ≡ length out.old }
@@ -73,8 +75,8 @@ impl<'a> WorkedOut<'a> {
         Ok(count)
     }
 
-    /// Writes values of an expression, of which there are as many from a place on as `out` has room for:
-    /// those of a reduction of an operation as they are combined, with no list of the operand's.
+    /// Writes `out.len()` values of an expression, from place `first` on; there are that many. A
+    /// reduction that `by_runs.rt` chooses stores none of the values that it combines.
     fn fill_all(&self, expr: &Expr, first: u64, out: &mut [i64]) -> Result<(), AllocError>
         requires inputs { IsTrue (has_inputs (term_of expr.now) (length self.now.tensors.tensors)) }
         requires dims { IsOk (dims_of self.now.tensors.bounds (term_of expr.now)
@@ -86,7 +88,7 @@ impl<'a> WorkedOut<'a> {
         ensures values { OnOk result (out.new ≡ values_from (term_of expr.now)
             self.now.tensors.tensors first (length out.old)) }
     {
-        // Says that dims can go as far as the tensors' bounds.
+        // Called for its clause: dims can go as far as the tensors' bounds.
         let _limit = self.tensors.bounds();
         if combines_an_operation(expr, &self.tensors) {
             let parts = PartEvaluator::over(self.alloc, expr, &self.tensors, &[])?;
@@ -98,7 +100,7 @@ impl<'a> WorkedOut<'a> {
         evaluator.fill(first, out)
     }
 
-    /// The tensor of an expression over them.
+    /// Evaluates the whole tensor of an expression over these tensors.
     pub(crate) fn eval(&self, expr: &Expr) -> Result<Tensor<'static>, Refusal>
         requires { IsTrue (has_inputs (term_of expr.now) (length self.now.tensors.tensors)) }
         ensures tensor { IfOk result (λ t.
@@ -115,7 +117,7 @@ impl<'a> WorkedOut<'a> {
     }
 }
 
-/// How many of so many values stand from a place on, where there is room for so many.
+/// Returns how many of `size` values lie from place `first` on, at most `room`.
 fn count_from(size: u64, first: u64, room: usize) -> usize
     ensures count { result ≡ min (size - first) room }
     ensures room { result ≤ room }

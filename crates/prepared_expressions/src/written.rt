@@ -1,4 +1,5 @@
-//! Expressions written as numbers.
+//! Writes expressions as numbers. `tree.rt` and `arguments.rt` read them; `specs/Recorded` defines
+//! them.
 
 ghost use Rattle.std.specs.Prelude.{◌≡◌, ◌++◌, ◌∷◌, ◌≤◌, ℕ, List, length, IfOk, OnOk};
 ghost use Rattle.std.specs.List.{All};
@@ -18,8 +19,8 @@ use crate::tree::MAX_HEIGHT;
 use std::alloc::{AllocError, Global};
 use tensor_terms::{Binary, Expr, Movement, Node, Ternary, Unary};
 
-/// Puts the numbers of an expression behind those that are there, where it is of at most this
-/// height.
+/// Appends the numbers of an expression. `TooLarge` if more than `height` of its nodes lie one
+/// below the other.
 pub(crate) fn write_tree(
     alloc: Global,
     numbers: &mut Vec<u64>,
@@ -63,7 +64,7 @@ pub(crate) fn write_tree(
     Ok(())
 }
 
-/// Puts the numbers of expressions, one behind the other, behind those that are there.
+/// Appends the numbers of expressions, one after the other.
 pub(crate) fn write_trees(
     alloc: Global,
     numbers: &mut Vec<u64>,
@@ -79,7 +80,8 @@ pub(crate) fn write_trees(
     Ok(())
 }
 
-/// Puts a number, how many arguments there are, and these behind what is there.
+/// Appends the head of a node: the number of its kind, the number of its arguments, and the
+/// arguments.
 fn write_head(numbers: &mut Vec<u64>, kind: Kind, arguments: &[u64]) -> Result<(), AllocError>
     ensures { OnOk result ((rest : List ℕ) → numbers.new.items ++ rest
         ≡ numbers.old.items ++ headed (number_of kind) arguments.now rest) }
@@ -88,7 +90,7 @@ fn write_head(numbers: &mut Vec<u64>, kind: Kind, arguments: &[u64]) -> Result<(
     write_list(numbers, arguments)
 }
 
-/// Puts a list, with its length before it, behind what is there.
+/// Appends the length of a list, and then the list.
 pub(crate) fn write_list(numbers: &mut Vec<u64>, list: &[u64]) -> Result<(), AllocError>
     ensures { OnOk result ((rest : List ℕ) → numbers.new.items ++ rest
         ≡ numbers.old.items ++ length list.now ∷ list.now ++ rest) }
@@ -98,7 +100,7 @@ pub(crate) fn write_list(numbers: &mut Vec<u64>, list: &[u64]) -> Result<(), All
     Ok(())
 }
 
-/// The kind of an operation on one operand.
+/// Returns the kind of an operation on one operand.
 fn kind_of(operation: Unary<'_>) -> UnaryKind
     ensures { result ≡ unary_kind (unary_at operation.entry) }
 {
@@ -118,7 +120,7 @@ fn kind_of(operation: Unary<'_>) -> UnaryKind
     }
 }
 
-/// The kind of an operation on two operands.
+/// Returns the kind of an operation on two operands.
 fn binary_kind_of(operation: Binary<'_>) -> BinaryKind
     ensures { result ≡ binary_kind (binary_at operation.entry) }
 {
@@ -131,7 +133,7 @@ fn binary_kind_of(operation: Binary<'_>) -> BinaryKind
     }
 }
 
-/// The arguments of an operation on one operand, as numbers.
+/// Returns the arguments of an operation on one operand, as numbers.
 fn numbers_of(alloc: Global, operation: Unary<'_>) -> Result<Vec<u64>, AllocError>
     ensures numbers { IfOk result (λ v. v.items ≡ unary_numbers (unary_at operation.entry)) }
     ensures range { HasRange (unary_at operation.entry) }
@@ -146,7 +148,8 @@ fn numbers_of(alloc: Global, operation: Unary<'_>) -> Result<Vec<u64>, AllocErro
     }
 }
 
-/// The arguments of a movement, as numbers.
+/// Returns the arguments of a movement, as numbers. Of two lists, the first has its length before
+/// it.
 fn movement_numbers_of(alloc: Global, moving: Movement<'_>) -> Result<Vec<u64>, AllocError>
     ensures { IfOk result (λ v. v.items ≡ movement_numbers (movement_at moving.entry)) }
 {
@@ -167,14 +170,14 @@ fn movement_numbers_of(alloc: Global, moving: Movement<'_>) -> Result<Vec<u64>, 
     }
 }
 
-/// A flag as a number.
+/// Returns 1 for true and 0 for false.
 fn flag_number(flag: bool) -> u64
     ensures { result ≡ flag_number flag }
 {
     if flag { 1 } else { 0 }
 }
 
-/// The arguments of an operation on two operands, as numbers.
+/// Returns the arguments of an operation on two operands, as numbers.
 fn binary_numbers_of(alloc: Global, operation: Binary<'_>) -> Result<Vec<u64>, AllocError>
     ensures { IfOk result (λ v. v.items ≡ binary_numbers (binary_at operation.entry)) }
 {
@@ -186,7 +189,7 @@ fn binary_numbers_of(alloc: Global, operation: Binary<'_>) -> Result<Vec<u64>, A
     }
 }
 
-/// Pairs, one behind the other.
+/// Returns the numbers of pairs, one pair after the other.
 fn pair_numbers_of(alloc: Global, pairs: &[(u64, u64)]) -> Result<Vec<u64>, AllocError>
     ensures { IfOk result (λ v. v.items ≡ pair_numbers pairs.now) }
 {

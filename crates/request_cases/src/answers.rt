@@ -1,4 +1,5 @@
-//! The line that answers a text, worked out in three ways.
+//! Computes the line that answers a text in three ways: by a whole run, by ranges of places, and
+//! place by place. Each way is a check of the other two.
 
 ghost use Rattle.expr_reader.specs.Asked.{IsUnbound};
 
@@ -9,11 +10,12 @@ use std::thread::Threads;
 use tensor_ops::{Cursor, TensorEvaluator};
 use tensor_runner::{CountedReader, CountedWriter, Status, run};
 
-/// How many places a range has here.
+/// How many places a range has in [`by_ranges`].
 const RANGE: usize = 7;
 
-/// The line that a run over memory writes. Where the run ends in another way than such a line
-/// tells, that is told too.
+/// Returns the line that a run over memory writes, without its line feed. If the run ends in
+/// another way than this line says, the text that is returned says so, and so differs from any
+/// line.
 pub(crate) fn answer<RT: Threads + Wait + Sync>(
     rt: &RT,
     alloc: Global,
@@ -36,7 +38,7 @@ pub(crate) fn answer<RT: Threads + Wait + Sync>(
     }
 }
 
-/// The line by the value at each place by itself.
+/// Returns the answer of a text, each value computed by itself with a [`Cursor`].
 pub(crate) fn by_places(alloc: Global, text: &str) -> Result<String, AllocError> {
     match read_request(alloc, text.as_bytes()) {
         Ok(request) => each_place(alloc, &request),
@@ -44,7 +46,7 @@ pub(crate) fn by_places(alloc: Global, text: &str) -> Result<String, AllocError>
     }
 }
 
-/// The line by ranges of [`RANGE`] places.
+/// Returns the answer of a text, computed by ranges of [`RANGE`] places with a [`TensorEvaluator`].
 pub(crate) fn by_ranges(alloc: Global, text: &str) -> Result<String, AllocError> {
     match read_request(alloc, text.as_bytes()) {
         Ok(request) => each_range(alloc, &request),
@@ -52,7 +54,7 @@ pub(crate) fn by_ranges(alloc: Global, text: &str) -> Result<String, AllocError>
     }
 }
 
-/// The line of a request's tensor, place by place.
+/// Returns the line of a request's tensor, computed place by place.
 fn each_place(alloc: Global, request: &Request<'_>) -> Result<String, AllocError>
     requires { IsUnbound request.now }
 {
@@ -67,7 +69,7 @@ fn each_place(alloc: Global, request: &Request<'_>) -> Result<String, AllocError
     tensor_line(alloc, dims.as_slice(), values.as_slice())
 }
 
-/// The line of a request's tensor, range by range.
+/// Returns the line of a request's tensor, computed range by range.
 fn each_range(alloc: Global, request: &Request<'_>) -> Result<String, AllocError>
     requires { IsUnbound request.now }
 {
@@ -82,12 +84,12 @@ fn each_range(alloc: Global, request: &Request<'_>) -> Result<String, AllocError
     tensor_line(alloc, evaluator.dims().as_slice(), values.as_slice())
 }
 
-/// The line of a fault.
+/// Returns the line of a fault.
 fn fault_line(alloc: Global, fault: Fault) -> Result<String, AllocError> {
     format!(in alloc; "error {} {}", fault.number(), fault.name())
 }
 
-/// The line of a tensor of these sizes and values.
+/// Returns the line of a tensor with these dims and values.
 fn tensor_line(alloc: Global, sizes: &[u64], values: &[i64]) -> Result<String, AllocError> {
     let spaced = format!(in alloc; "{{\"data\":{values:?},\"dims\":{sizes:?}}}")?;
     spaced.replace(alloc, ", ", ",")

@@ -1,25 +1,26 @@
-//! The lines of a file of cases.
+//! The lines of a file of cases, by how they begin. Another kind of line needs an arm in `take` of
+//! `cases.rt`, and a word in README.md.
 
 use crate::case_version::CaseVersion;
 
 /// A line of a file of cases.
 #[derive(Clone, Copy, Drop)]
 pub(crate) enum CaseLine<'t> {
-    /// Nothing, or a note.
+    /// An empty line or a note.
     Note,
-    /// A name and the text that it stands for.
+    /// A name and the text that it stands for from there on.
     Let(&'t str),
-    /// The version of the expressions behind it.
+    /// The version of the expressions from there on.
     Version(CaseVersion),
-    /// The expressions behind it are over so many values that none is worked out place by place.
+    /// The cases from there to the end of the file are too large to be answered place by place.
     Large,
-    /// The inputs of the expressions behind it.
+    /// The inputs of the expressions from there on.
     Inputs(&'t str),
     /// A whole request text.
     Text(&'t str),
-    /// An expression over the last inputs, of the last version.
+    /// An expression over the last inputs, in the last version.
     Expr(&'t str),
-    /// The line that answers what stands before it.
+    /// The answer that the last text or expression should have.
     Answer(&'t str),
 }
 

@@ -1,6 +1,6 @@
-//! The versions of the expressions of a file.
+//! The versions of requests that a file of cases can name.
 
-/// A version of the request.
+/// A version of a request.
 #[derive(Clone, Copy, Drop)]
 pub(crate) enum CaseVersion {
     One,
@@ -8,7 +8,7 @@ pub(crate) enum CaseVersion {
 }
 
 impl CaseVersion {
-    /// How it stands in a request.
+    /// Returns the number of the version in a request.
     pub(crate) fn number(self) -> u32 {
         match self {
             CaseVersion::One => 1,

@@ -1,4 +1,4 @@
-//! The cases of a file, one after the other.
+//! Runs the cases of a file, one after the other, and collects the answers that differ.
 
 use crate::answers::{answer, by_places, by_ranges};
 use crate::case_line::CaseLine;
@@ -7,35 +7,36 @@ use std::alloc::{AllocError, Global};
 use std::sync::Wait;
 use std::thread::Threads;
 
-/// By how many workers each expression is worked out, in blocks of each size.
+/// The numbers of workers that answer each expression with each block of [`BLOCKS`].
 const WORKERS: &[u32] = &[1, 2, 3];
 
-/// By how many it is once more, in blocks of one size: to start so many takes longer than most cases.
+/// A number of workers that answers each expression once, with one block of [`BLOCKS`]. Starting
+/// them takes longer than most cases, so they do not answer with each block.
 const MANY_WORKERS: u32 = 64;
 
-/// In blocks of how many places.
+/// The numbers of places in a block.
 const BLOCKS: &[u32] = &[1, 2, 7, 1_048_576];
 
-/// What the next answer is of.
+/// What the next answer belongs to.
 #[derive(Drop)]
 enum Asked {
     /// A whole request text.
     Text(String),
-    /// An expression over the last inputs, of the last version.
+    /// An expression over the last inputs, in the last version.
     Expr(String),
 }
 
-/// What came of the cases so far.
+/// The state of a file's cases: what the lines so far set, and what they found.
 #[derive(Drop)]
 pub(crate) struct Cases {
-    /// How many there were.
+    /// How many cases there were.
     pub(crate) count: u64,
-    /// A line for each answer that is another one.
+    /// The report: a few lines for each answer that differs.
     pub(crate) report: String,
     /// Names in angle brackets, each with the text that it stands for.
     names: Vec<(String, String)>,
     version: CaseVersion,
-    /// Whether what is asked is left out place by place.
+    /// Whether the cases are not answered place by place.
     is_large: bool,
     inputs: String,
     asked: Asked,
@@ -43,7 +44,7 @@ pub(crate) struct Cases {
 }
 
 impl Cases {
-    /// Before the first case.
+    /// Returns the state before the first line of a file.
     pub(crate) fn new(alloc: Global) -> Cases {
         Cases {
             count: 0,
@@ -57,7 +58,7 @@ impl Cases {
         }
     }
 
-    /// Goes over the lines of a file.
+    /// Runs the cases of a file.
     pub(crate) fn take_all<RT: Threads + Wait + Sync>(
         &mut self,
         rt: &RT,
@@ -90,7 +91,7 @@ impl Cases {
         Ok(())
     }
 
-    /// Takes a name and the text behind it, in which earlier names may stand.
+    /// Adds a name and the text that it stands for. Earlier names in that text are replaced.
     fn name(&mut self, named: &str) -> Result<(), AllocError> {
         if let Some((name, text)) = named.split_once(' ') {
             let name = format!(in self.alloc; "<{name}>")?;
@@ -100,7 +101,7 @@ impl Cases {
         Ok(())
     }
 
-    /// A text with what each name in it stands for.
+    /// Returns a text in which each name is replaced by what it stands for.
     fn written_out(&self, text: &str) -> Result<String, AllocError> {
         let mut text = text.to_string(self.alloc)?;
         for (name, meant) in &self.names {
@@ -109,7 +110,7 @@ impl Cases {
         Ok(text)
     }
 
-    /// Compares what answers the case with the line that is to answer it.
+    /// Counts the case, and reports each answer that differs from `line`.
     fn compare<RT: Threads + Wait + Sync>(
         &mut self,
         rt: &RT,
@@ -120,7 +121,7 @@ impl Cases {
         self.report.push_str(report.as_str())
     }
 
-    /// A line for each way in which the case is answered otherwise.
+    /// Returns the report of each way to answer the case whose answer differs from `line`.
     fn differences<RT: Threads + Wait + Sync>(
         &self,
         rt: &RT,
@@ -132,8 +133,9 @@ impl Cases {
         }
     }
 
-    /// Those of an expression, on each number of workers and with each size of block, and on many
-    /// workers with the sizes in turn, one a case.
+    /// Returns the report of an expression: in each way once, by each number of workers of
+    /// [`WORKERS`] with each block, and by [`MANY_WORKERS`]. The block of the latter changes from
+    /// case to case.
     fn on_all_workers<RT: Threads + Wait + Sync>(
         &self,
         rt: &RT,
@@ -152,7 +154,8 @@ impl Cases {
         Ok(report)
     }
 
-    /// Those of a text: by a run, by ranges, and where it isn't large by single places.
+    /// Returns the report of a text: by a run, by ranges, and place by place unless the case is
+    /// large.
     fn in_each_way<RT: Threads + Wait + Sync>(
         &self,
         rt: &RT,
@@ -173,7 +176,7 @@ impl Cases {
         Ok(report)
     }
 
-    /// Those of a run on so many workers.
+    /// Returns the report of runs on this number of workers, one run for each block.
     fn on_workers<RT: Threads + Wait + Sync>(
         &self,
         rt: &RT,
@@ -189,7 +192,7 @@ impl Cases {
         Ok(report)
     }
 
-    /// That of a run on so many workers with blocks of one size.
+    /// Returns the report of one run on this number of workers with this block.
     fn on<RT: Threads + Wait + Sync>(
         &self,
         rt: &RT,
@@ -203,7 +206,7 @@ impl Cases {
         self.difference(text.as_str(), found.as_str(), line)
     }
 
-    /// The request for an expression over the inputs.
+    /// Returns the text of a request for an expression over the last inputs.
     fn request(&self, expr: &str, workers: u32, block: u32) -> Result<String, AllocError> {
         let (version, inputs) = (self.version.number(), self.inputs.as_str());
         let head = format!(in self.alloc; "\"version\":{version},\"workers\":{workers}")?;
@@ -211,7 +214,7 @@ impl Cases {
         format!(in self.alloc; "{{{head},\"block\":{block},\"inputs\":{inputs},\"expr\":{expr}}}")
     }
 
-    /// A line where an answer is another one, and else nothing.
+    /// Returns the report of an answer: empty if `found` is `line`.
     fn difference(&self, text: &str, found: &str, line: &str) -> Result<String, AllocError> {
         if found == line {
             return Ok(String::new(self.alloc));

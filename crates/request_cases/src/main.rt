@@ -1,9 +1,6 @@
-//! Runs the request texts of files of cases, and tells which are answered otherwise than the files
-//! say. A file has a line `inputs` JSON, then an expression a line, and behind each a line `=` and
-//! the line that answers it; `text` JSON is a whole request text, and `#` begins a note. The
-//! expressions are of version 1, or of that of the last line `version 1` or `version 2`. Behind a
-//! line `let` NAME TEXT, `<NAME>` stands for that text; behind a line `large` no expression is worked
-//! out place by place.
+//! Answers the request texts of files of cases, and prints the answers that differ from the files.
+//! README.md says what a file has. The gate compares the output with `stdout`, which has the number
+//! of cases of each file.
 #![tactic(auto)]
 
 mod answers;
@@ -14,7 +11,7 @@ mod cases;
 use crate::cases::Cases;
 use std::{fs, io};
 
-/// The files of cases.
+/// The files of cases, in `data/`. A new file is added here and in `stdout`.
 const FILES: &[&str] = &[
     "arguments.cases",
     "chains.cases",

@@ -38,7 +38,7 @@ module _ {J : Type 0} where
   at_home (ready x) e = (Some x, refl)
 
 module _ {J : Type 0} {F : ℕ → J → Type 0} {b : Bool} where
-  -- who has every part knows a sum to which no part adds nothing
+  -- a seat with every part knows a sum to which no part adds nothing
   sum_of : {c : ℕ} (s : State (Option J) (View J)) → KeepsAccount F b c s → (id : ℕ) (v : View J)
       (f : View J → ℕ) → f nothing ≡ 0 → get_elem? s.views id ≡ some v → v.parts ≡ c
       → total f s.views ≡ f v

@@ -41,7 +41,7 @@ module _ {J : Type 0} where
   abbrev pub Spent : List (View J) → Type 0
   Spent vs = (j : ℕ) (v : View J) → get_elem? vs j ≡ some v → v.parts ≡ 0 → v ≡ nothing
 
-  -- the words behind those of so many elements have the lengths
+  -- the words behind the words of these elements have the lengths
   abbrev pub Lengths : St J → ℕ → Type 0
   Lengths s n =
       (r : ℕ) → r ≤ n / 1024 → get_or s.words (length_word n r) 0

@@ -1,4 +1,4 @@
--- What the length of a row tells at every moment, and to who looks at it.
+-- What the length of a row tells at every moment, and to a seat that looks at it.
 use Rattle.std.proofs.Common.{if◌then◌else◌, ne_eqb, ◌≡◌, ℕ, suc, ◌+◌, ◌*◌, ◌-◌}
 use Rattle.std.proofs.Common.{◌/◌, ◌<◌, ◌≤◌, List, [], ◌∷◌, Option, Some, None, length, get_or, Bool, true}
 use Rattle.std.proofs.Common.{sym, refl, ap, ◌∙◌, subst, arith}

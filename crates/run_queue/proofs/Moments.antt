@@ -31,7 +31,7 @@ same_or_not : (i k : ℕ) → Dec (k ≡ i) → (names i (Some k) ≡ 0) ⊎ (So
 same_or_not i k (yes e) = inr (ap Some e)
 same_or_not i k (no ne) = inl (names_other k i (λ e. ne (sym e)))
 
--- who works on an element works on this one, or doesn't count
+-- a seat that works on an element works on this one, or doesn't count
 names_or_not : (i : ℕ) (on : Option ℕ) → (names i on ≡ 0) ⊎ (on ≡ Some i)
 names_or_not i None = inl refl
 names_or_not i (Some k) = same_or_not i k (ℕ_discrete k i)

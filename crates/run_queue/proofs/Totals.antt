@@ -40,7 +40,7 @@ at_most_total f (x ∷ xs) (suc i) v e =
     let r = at_most_total f xs i v e in
     omega arith
 
--- who has no part adds nothing
+-- a view with no part adds nothing
 total_none : {A : Type 0} (g f : A → ℕ) (xs : List A)
     → ((j : ℕ) (u : A) → get_elem? xs j ≡ some u → g u ≡ 0 → f u ≡ 0) → total g xs ≡ 0
     → total f xs ≡ 0
@@ -50,7 +50,7 @@ total_none g f (x ∷ xs) only none =
     let r = total_none g f xs (λ j u e. only (suc j) u e) (omega arith) in
     omega arith
 
--- who has every part has the total
+-- a view with every part has the total
 pub total_alone : {A : Type 0} (g f : A → ℕ) (xs : List A) (i : ℕ) (v : A)
     → ((j : ℕ) (u : A) → get_elem? xs j ≡ some u → g u ≡ 0 → f u ≡ 0) → get_elem? xs i ≡ some v
     → total g xs ≡ g v → total f xs ≡ f v

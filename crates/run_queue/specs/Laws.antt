@@ -1,4 +1,4 @@
--- What holds in every state that the rule of a table of rows allows.
+-- The laws of rows: what holds in every state that the rule of their table allows.
 use Rattle.std.specs.Prelude.{◌≡◌, ◌==◌, ◌<◌, ◌≤◌, ℕ, ◌+◌, ◌/◌, if◌then◌else◌, List, [], ◌∷◌}
 use Rattle.std.specs.Prelude.{◌++◌, length, Option, Some, option_to_list, slice_index_or}
 use Rattle.std.specs.List.{flat_map}
@@ -19,7 +19,7 @@ abbrev pub Rule : Type 0 → Type 0 → Type 1
 Rule J K = RowsKey K → State (Option J) (View J) → Type 0
 
 module _ {J : Type 0} where
-  -- the job at home in a slot, where there is one
+  -- the job at home in a slot, if there is one
   abbrev pub job_at_home : maybe.Option (Option J) → List J
   job_at_home none = []
   job_at_home (some slot) = option_to_list slot
@@ -36,7 +36,7 @@ module _ {J : Type 0} where
   Names views seat element =
       (view : View J) × (get_elem? views seat ≡ some view) × (view.busy ≡ Some element)
 
-  -- the length of a row, as its word says
+  -- the length of a row, by its word
   abbrev pub length_in : State (Option J) (View J) → ℕ → ℕ
   length_in s row = slice_index_or s.words (length_word (length s.homes) row) 0
 
@@ -48,7 +48,7 @@ module _ {J K : Type 0} where
       → SameBag (flat_map (λ view. view.puts) s.views)
       (flat_map (λ view. view.takes) s.views ++ ready_jobs s.words s.homes)
 
-  -- an element whose word says that it is busy is named in the view of one seat, and of no other
+  -- an element whose word says busy is named in the view of exactly one seat
   abbrev pub BusyElementsAreNamed : Rule J K → Type 0
   BusyElementsAreNamed holds =
       (key : RowsKey K) (s : State (Option J) (View J)) → holds key s
@@ -63,19 +63,19 @@ module _ {J K : Type 0} where
       → (element seat : ℕ) → element < length s.homes → Names s.views seat element
       → slice_index_or s.words element 0 ≡ busy_word
 
-  -- a row's length is at least the number of its elements whose words say that they are ready
+  -- a row's length is at least the number of its elements whose words say ready
   abbrev pub LengthsCoverReady : Rule J K → Type 0
   LengthsCoverReady holds =
       (key : RowsKey K) (s : State (Option J) (View J)) → holds key s
       → (row : ℕ) → row < length s.homes / most_jobs → ready_in row s.words ≤ length_in s row
 
-  -- a row's length is at most its most jobs and the number of seats
+  -- a row's length is at most 1,024 plus the number of seats
   abbrev pub LengthsAreBounded : Rule J K → Type 0
   LengthsAreBounded holds =
       (key : RowsKey K) (s : State (Option J) (View J)) → holds key s
       → (row : ℕ) → row < length s.homes / most_jobs → length_in s row ≤ most_jobs + key.seats
 
-  -- each job that is at home in a slot fits the row of its element
+  -- each job at home in a slot fits the row of its element
   abbrev pub ReadyJobsFit : (RowsKey K → ℕ → J → Type 0) → Rule J K → Type 0
   ReadyJobsFit fits holds =
       (key : RowsKey K) (s : State (Option J) (View J)) → holds key s

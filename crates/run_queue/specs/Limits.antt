@@ -1,10 +1,10 @@
--- What rows may have at most.
+-- The greatest number of rows, and of jobs in a row.
 use Rattle.std.specs.Prelude.{ℕ}
 
--- the most rows
+-- the greatest number of rows
 abbrev pub most_rows : ℕ
 most_rows = 256
 
--- the most jobs of one row
+-- the greatest number of jobs in a row
 abbrev pub most_jobs : ℕ
 most_jobs = 1024

@@ -6,7 +6,7 @@ use lib.ListN.{get_elem?}
 use Rattle.atomic_table.specs.Table.{State}
 
 module _ {J A : Type 0} where
-  -- the slot has an empty list, with room for so many elements
+  -- the slot has an empty list with room for this number of elements
   abbrev pub KeepsRoom : ℕ → State (Vec J A) (Unit {0}) → Type 0
   KeepsRoom room s =
       (list : Vec J A) × (get_elem? s.homes 0 ≡ some (some list)) × (list.items ≡ [])

@@ -1,4 +1,4 @@
--- The rule of a table of rows: the account of what went in and what came out.
+-- The rule of a table of rows: the account of which jobs went in and which came out.
 use Rattle.std.specs.Prelude.{◌≡◌, ℕ, ◌+◌, ◌/◌, ◌^◌, ◌<◌, ◌≤◌, length, slice_index_or, Option, Some}
 use Rattle.std.specs.Prelude.{Bool, true}
 use mathlib.Core.Option.{some}
@@ -13,19 +13,19 @@ use Rattle.run_queue.specs.Positions.{row_with}
 use Rattle.run_queue.specs.Views.{names, nothing}
 
 module _ {J : Type 0} where
-  -- the element is in the phase: so say its word, its slot, and the views that name it
+  -- the element is in the phase, by its word, its slot, and the number of views that name it
   abbrev pub Shows : State (Option J) (View J) → ℕ → Phase J → Type 0
   Shows s element phase =
       (slice_index_or s.words element 0 ≡ word_of phase)
       × (get_elem? s.homes element ≡ some (home_of phase))
       × (total (λ view. names element view.busy) s.views ≡ namers_of phase)
 
--- Each element is empty, ready, or busy and named by one seat's view. What was put is what was
--- taken and what is ready, each job as often: however jobs are weighed, the two weigh the same.
--- Where rows have lengths, that of a row is the number of its jobs at home and of those that views
--- owe it, and too small to wrap.
--- The views together are of the seats that were made, and a view of none knows nothing.
--- Each job that is ready fits its row.
+-- The rule. Each element is empty, or ready, or busy and named by exactly one view (each). What was
+-- put is, as a bag, what was taken and what is ready: whatever weights jobs are given, the sums are
+-- equal (balance). If the rows have length words, the length of a row is the number of its jobs at
+-- home plus the number of jobs that views owe it, and it is too small to wrap (lengths, few). The
+-- views together have the accounts of all seats that were made (whole), and a view of no seat knows
+-- nothing (spent). Each ready job fits its row (fit).
 pub record KeepsAccount {J : Type 0} (fits : ℕ → J → Type 0) (counted : Bool) (seats : ℕ)
     (s : State (Option J) (View J)) : Type 0 where
   pub long : length_word (length s.homes) (length s.homes / most_jobs) < length s.words

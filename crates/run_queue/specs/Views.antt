@@ -1,21 +1,22 @@
--- What the seats at a table of rows know, and how that changes.
+-- The views of seats at a table of rows, and how they change.
 use Rattle.std.specs.Prelude.{◌≡◌, ◌≢◌, ℕ, ◌+◌, ◌-◌, ◌==◌, if◌then◌else◌, List, [], ◌++◌}
 use Rattle.std.specs.Prelude.{Bool, true, false}
 use Rattle.std.specs.Prelude.{Option, Some, None}
 use Rattle.run_queue.specs.declared.slot_rows.view.Notes.{Notes}
 use Rattle.run_queue.specs.declared.slot_rows.view.View.{View}
 
--- 1 where the view works on the element, and else 0
+-- 1 if the view works on the element, else 0
 abbrev pub names : ℕ → Option ℕ → ℕ
 names element None = 0
 names element (Some other) = if other == element then 1 else 0
 
--- where rows have lengths, a job that is claimed out is owed to its row until that is lowered
+-- the element whose row a seat owes after it claimed a job out, until it lowers the length; none if
+-- the rows have no length words
 abbrev pub owed_where : Bool → ℕ → Option ℕ
 owed_where true element = Some element
 owed_where false element = None
 
--- no claim and no look yet, and the front at the first position
+-- the notes of a new seat: no claim and no look yet, and the front at the first position
 abbrev pub no_notes : Notes
 no_notes = record {
   claims = 0;
@@ -25,7 +26,7 @@ no_notes = record {
   front = 0;
 }
 
--- one claim more, of an element where it wanted one word and found another
+-- the notes with one more claim, of an element where it wanted one word and found another
 abbrev pub claimed : ℕ → ℕ → ℕ → Notes → Notes
 claimed element wanted found notes = record {
   claims = notes.claims + 1;
@@ -35,7 +36,7 @@ claimed element wanted found notes = record {
   front = notes.front;
 }
 
--- one look more, which found this length of a row
+-- the notes with one more look, which found this length of a row
 abbrev pub looked_at : ℕ → ℕ → Notes → Notes
 looked_at row found notes = record {
   claims = notes.claims;
@@ -45,7 +46,7 @@ looked_at row found notes = record {
   front = notes.front;
 }
 
--- the front is moved
+-- the notes with the front moved
 abbrev pub moved : (ℕ → ℕ) → Notes → Notes
 moved shift notes = record {
   claims = notes.claims;
@@ -55,7 +56,7 @@ moved shift notes = record {
   front = shift notes.front;
 }
 
--- a claim found what it wanted, and moved the front
+-- a claim found the word that it wanted, and moved the front
 abbrev pub Hit : (ℕ → ℕ) → ℕ → ℕ → Notes → Notes → Type 0
 Hit shift element wanted old new = new ≡ moved shift (claimed element wanted wanted old)
 
@@ -76,28 +77,28 @@ module _ {J : Type 0} where
     notes = notes;
   }
 
-  -- the same view with other notes
+  -- the view with other notes
   abbrev pub noted : View J → Notes → View J
   noted view notes = view_of view.parts view.puts view.takes view.busy view.owes notes
 
-  -- the same view, which owes the row of this element, or none
+  -- the view, which now owes the row of this element, or none
   abbrev pub owing : View J → Option ℕ → View J
   owing view owes = view_of view.parts view.puts view.takes view.busy owes view.notes
 
-  -- so many seats' accounts, with nothing in them
+  -- the view with the accounts of `parts` seats, with nothing in them
   abbrev pub fresh : ℕ → View J
   fresh parts = view_of parts [] [] None None no_notes
 
-  -- no seat's account
+  -- the view of no seat
   abbrev pub nothing : View J
   nothing = fresh 0
 
-  -- one account fewer
+  -- the view with one account fewer
   abbrev pub after_deal : View J → View J
   after_deal view =
       view_of (view.parts - 1) view.puts view.takes view.busy view.owes view.notes
 
-  -- the accounts of two views in one
+  -- the view with the accounts of both views
   abbrev pub together : View J → View J → View J
   together view other =
       view_of (view.parts + other.parts) (view.puts ++ other.puts) (view.takes ++ other.takes)

@@ -1,4 +1,5 @@
-//! A row of jobs for one thread, of a fixed room.
+//! `Deque`: a row of jobs for one thread, of fixed capacity. `deque_rows.rt` builds the rows of
+//! `LockedRows` from it, and `ROW_JOBS` is the capacity of the rows of `SlotRows`, too.
 
 ghost use Rattle.std.specs.Prelude.{◌≡◌, ◌+◌, ◌<◌, ◌≤◌, ◌↔◌, List, [], ◌∷◌, ◌++◌, length, vec_len};
 ghost use Rattle.std.specs.Prelude.{vec_capacity, IsTrue, IsOk, IsErr, IfOk, IfErr, IfSome, IfNone};
@@ -10,18 +11,19 @@ use std::alloc::{AllocError, Allocator, Global};
 use std::collections::VecDeque;
 use std::marker::Model;
 
-/// How many jobs a row holds at most.
+/// The most jobs of a row.
 pub const ROW_JOBS: usize = 1024;
 
-/// A row of jobs for one thread: a ring over one block, whose room is all taken at the start.
+/// A row of jobs for one thread: a ring over one block of memory, which is allocated when the row
+/// is made.
 ///
-/// A full row gives a job back, and no call moves another job or takes memory.
+/// A push on a full row returns the job. No call moves another job or allocates memory.
 #[derive(Drop)]
 pub struct Deque<J, A: Allocator = Global> {
     jobs: VecDeque<J, A>,
 }
 
-// Clauses see the jobs, front first.
+// Clauses see the list of the jobs, front first.
 impl<J, A: Allocator> Model for Deque<J, A> {
     ghost Value = { List J };
 
@@ -31,7 +33,7 @@ impl<J, A: Allocator> Model for Deque<J, A> {
 }
 
 impl<J, A: Allocator> Deque<J, A> {
-    /// An empty row, with room for `ROW_JOBS` jobs.
+    /// Returns an empty row with room for `ROW_JOBS` jobs.
     pub fn new(alloc: A) -> Result<Self, AllocError>
         ensures { IfOk result (λ row. row ≡ []) }
     {
@@ -40,7 +42,7 @@ impl<J, A: Allocator> Deque<J, A> {
         })
     }
 
-    /// How many jobs are in the row.
+    /// Returns how many jobs the row has.
     pub fn len(&self) -> usize
         ensures count { result ≡ length self.now }
         ensures within { length self.now ≤ most_jobs }
@@ -48,13 +50,14 @@ impl<J, A: Allocator> Deque<J, A> {
         self.jobs.len()
     }
 
+    /// Returns whether the row has no job.
     pub fn is_empty(&self) -> bool
         ensures { IsTrue result ↔ (self.now ≡ []) }
     {
         self.jobs.is_empty()
     }
 
-    /// Puts a job in front of the others, or gives it back where the row is full.
+    /// Puts a job in front of the others, or returns it if the row is full.
     pub fn push_front(&mut self, job: J) -> Result<(), J>
         ensures room { IsOk result ↔ (length self.old < most_jobs) }
         ensures full { IsErr result ↔ (length self.old ≡ most_jobs) }
@@ -69,7 +72,7 @@ impl<J, A: Allocator> Deque<J, A> {
         Err(job)
     }
 
-    /// Puts a job behind the others, or gives it back where the row is full.
+    /// Puts a job behind the others, or returns it if the row is full.
     pub fn push_back(&mut self, job: J) -> Result<(), J>
         ensures room { IsOk result ↔ (length self.old < most_jobs) }
         ensures full { IsErr result ↔ (length self.old ≡ most_jobs) }
@@ -84,7 +87,7 @@ impl<J, A: Allocator> Deque<J, A> {
         Err(job)
     }
 
-    /// Takes the first job.
+    /// Takes the first job. None if the row is empty.
     pub fn pop_front(&mut self) -> Option<J>
         ensures popped { IfSome result (λ job. self.old ≡ job ∷ self.new) }
         ensures empty { IfNone result ((self.old ≡ []) × (self.new ≡ [])) }
@@ -92,7 +95,7 @@ impl<J, A: Allocator> Deque<J, A> {
         self.jobs.pop_front()
     }
 
-    /// Takes the last job.
+    /// Takes the last job. None if the row is empty.
     pub fn pop_back(&mut self) -> Option<J>
         ensures popped { IfSome result (λ job. self.old ≡ self.new ++ job ∷ []) }
         ensures empty { IfNone result ((self.old ≡ []) × (self.new ≡ [])) }
@@ -100,7 +103,7 @@ impl<J, A: Allocator> Deque<J, A> {
         self.jobs.pop_back()
     }
 
-    /// Moves the jobs to the end of a list that has room for a full row.
+    /// Moves the jobs to the end of a list, which has room for a full row.
     pub(crate) fn move_into(self, list: &mut Vec<J, A>)
     where
         J: Drop,

@@ -1,4 +1,5 @@
-//! All rows of a pool, one deque each, as whoever holds their lock has them.
+//! `DequeRows`: one deque for each row, for the thread that holds their lock. `locked_rows.rt`
+//! alone uses it.
 
 ghost use Rattle.std.specs.Prelude.{◌≡◌, ◌*◌, ◌<◌, ◌≤◌, ◌↔◌, List, [], ◌∷◌, ◌++◌, length};
 ghost use Rattle.std.specs.Prelude.{replicate, slice_set, vec_len, vec_capacity, IsOk, IfOk, IfErr};
@@ -12,14 +13,14 @@ use crate::room::room_for;
 use std::alloc::{AllocError, Allocator};
 use std::marker::Model;
 
-/// Rows for one thread at a time, with room for a list of all their jobs.
+/// Rows for one thread at a time, and room for a list of all their jobs.
 #[derive(Drop)]
 pub(crate) struct DequeRows<J, A: Allocator> {
     deques: Vec<Deque<J, A>, A>,
     left: Vec<J, A>,
 }
 
-// Clauses see the rows' jobs, each row front first.
+// Clauses see a list of rows, each the list of its jobs, front first.
 impl<J, A: Allocator> Model for DequeRows<J, A> {
     ghost Value = { List (List J) };
 
@@ -30,7 +31,7 @@ impl<J, A: Allocator> Model for DequeRows<J, A> {
 }
 
 impl<J: Drop, A: Allocator> DequeRows<J, A> {
-    /// Empty rows.
+    /// Returns `count` empty rows, or an error if an allocation fails.
     pub(crate) fn new(alloc: &A, count: u16) -> Result<Self, AllocError>
     where
         A: Clone,
@@ -41,7 +42,7 @@ impl<J: Drop, A: Allocator> DequeRows<J, A> {
         Ok(DequeRows { deques, left })
     }
 
-    /// How many jobs are in a row.
+    /// Returns how many jobs a row has; 0 if there is no such row.
     pub(crate) fn row_len(&self, row: usize) -> usize
         ensures count { result ≡ length (row_of self.now row) }
         ensures within { result ≤ most_jobs }
@@ -52,6 +53,7 @@ impl<J: Drop, A: Allocator> DequeRows<J, A> {
         }
     }
 
+    /// Puts a job in at the front of a row. Returns the job if the row is full or does not exist.
     pub(crate) fn push_front(&mut self, row: usize, job: J) -> Result<(), J>
         ensures room { IsOk result
             ↔ ((row < length self.old) × (length (row_of self.old row) < most_jobs)) }
@@ -66,6 +68,7 @@ impl<J: Drop, A: Allocator> DequeRows<J, A> {
         self.deques[row].push_front(job)
     }
 
+    /// Puts a job in at the back of a row. Returns the job if the row is full or does not exist.
     pub(crate) fn push_back(&mut self, row: usize, job: J) -> Result<(), J>
         ensures room { IsOk result
             ↔ ((row < length self.old) × (length (row_of self.old row) < most_jobs)) }
@@ -80,6 +83,7 @@ impl<J: Drop, A: Allocator> DequeRows<J, A> {
         self.deques[row].push_back(job)
     }
 
+    /// Takes the job at the front of a row. None if the row is empty or does not exist.
     pub(crate) fn pop_front(&mut self, row: usize) -> Option<J>
         ensures popped { IfSome result (λ job. row_of self.old row ≡ job ∷ row_of self.new row) }
         ensures others { self.new ≡ slice_set self.old row (row_of self.new row) }
@@ -91,6 +95,7 @@ impl<J: Drop, A: Allocator> DequeRows<J, A> {
         self.deques[row].pop_front()
     }
 
+    /// Takes the job at the back of a row. None if the row is empty or does not exist.
     pub(crate) fn pop_back(&mut self, row: usize) -> Option<J>
         ensures popped { IfSome result (λ job.
             row_of self.old row ≡ row_of self.new row ++ job ∷ []) }
@@ -103,7 +108,7 @@ impl<J: Drop, A: Allocator> DequeRows<J, A> {
         self.deques[row].pop_back()
     }
 
-    /// All jobs, row after row.
+    /// Returns all jobs, row after row.
     pub(crate) fn into_jobs(self) -> Vec<J, A>
         ensures { result.items ≡ flat_map (λ row. row) self }
     {
@@ -115,7 +120,7 @@ impl<J: Drop, A: Allocator> DequeRows<J, A> {
     }
 }
 
-/// So many empty rows.
+/// Returns `count` empty rows.
 fn empty_deques<J: Drop, A: Allocator + Clone>(
     alloc: &A,
     count: u16,

@@ -1,51 +1,52 @@
-//! Rows of jobs, as the workers of a pool keep them: a deque for one thread, and rows that threads
-//! share.
+//! Rows of jobs, from whose fronts workers take their own jobs and from whose backs they steal: a
+//! deque for one thread, and rows that threads share.
 //!
 //! # Use
 //!
-//! Each owner has a seat, which owns a row: it puts jobs in and takes them out at the row's front.
-//! Whoever has a seat may do so at the back of any row:
+//! Each owner has a seat, and the seat owns a row. The owner pushes and pops at the front of its
+//! row. Any seat pushes and pops at the back of any row:
 //!
 //!     rows.push_front(&mut seat, job)          rows.pop_front(&mut seat)
 //!     rows.push_back(rt, &mut seat, row, job)  rows.pop_back(rt, &mut seat, row)
 //!
-//! A push into an element that isn't empty gives that very job back. At the end `close` takes all
-//! seats, and gives the jobs that are left. A `Deque` is a row for one thread alone. A pool asks
-//! for `Rows`, which `SlotRows` meets with the protocol below, and `LockedRows` with one lock round
-//! deques.
+//! A push returns its job if the element there is not empty. At the end `close` takes all seats,
+//! and returns the jobs that are left. A `Deque` is a row for one thread alone. A pool is generic
+//! over the trait `Rows`. `SlotRows` implements it by the protocol of this page, and `LockedRows`
+//! by one lock round deques.
 //!
 //! # The words of rows of slots
 //!
-//! All rows lie in one table. Its slots are the jobs of its elements.
+//! All rows lie in one table. The slots of the table are the jobs of the elements.
 //!
-//! | Word | Says |
+//! | Word | Value |
 //! |---|---|
-//! | of an element, row after row of 1,024 | 0 empty, 1 busy, 2 ready |
-//! | the length of a row, a cache line each | how many jobs there are, and those on their way |
+//! | of an element, 1,024 for each row | 0 empty, 1 busy, 2 ready |
+//! | the length of a row, on a cache line of its own | how many jobs it has or is about to have |
 //!
-//! The position at the front of a row stands in its owner's seat, and so needs no lock. That at the
-//! back stands under the row's own lock. An element is busy while a seat works on it, and ready
-//! where its slot has a job.
+//! The front position of a row stands in its owner's seat, and so needs no lock. The back position
+//! stands under the row's own lock. An element is busy while a seat works on it. It is ready if its
+//! slot has a job.
 //!
-//! # What moves when
+//! # What a push and a pop do
 //!
-//! A call at an end makes one claim, an exchange of its element's word. Where it finds another word
-//! the call has its answer: the job back, or none.
+//! Each call at an end makes one claim: it exchanges the word of its element. If the claim finds
+//! another word than it wants, a push returns its job and a pop returns none. Otherwise a push
+//! makes the element busy, raises the length, puts the job into the slot, and makes the element
+//! ready. A pop makes the element busy, takes the job out of the slot, makes the element empty, and
+//! lowers the length. So the length of a row is never less than the number of its ready elements.
+//! It is more by at most one for each seat.
 //!
-//! ```text
-//! push    0 -> 1 claimed    length up      job into the slot      1 -> 2 ready
-//! pop     2 -> 1 claimed    job out of the slot    1 -> 0 empty   length down
-//! ```
-//!
-//! So the length of a row is never less than its ready elements, and more by at most one for each
-//! seat.
+//! README.md has the picture.
 //!
 //! # Why no job is lost or doubled
 //!
-//! A busy element is named in the view of the one seat whose claim made it busy, and in no other. A
-//! job moves by value, from the caller into the slot and out of it. Each view counts what its seat
-//! has put in and taken out; over all views, what was put is, as a bag, what was taken and what is
-//! ready, between any two steps of any threads.
+//! A busy element is named in the view of the one seat whose claim made it busy, and in no other
+//! view. A job moves by value, from the caller into the slot and out of it. Each view lists the
+//! jobs that its seat has put in and taken out. Over all views, what was put is, as a bag, what was
+//! taken and what is ready, between any two steps of any threads.
+//!
+//! waking_rows puts these rows into the table of an event count, and worker_pool is generic over
+//! `Rows`. A change to the trait, to the order of the steps, or to a law here is a change there.
 #![tactic(auto)]
 
 mod deque;

@@ -1,4 +1,4 @@
-//! Rows of jobs behind one lock: the plain rows that the rows of slots are compared with.
+//! `LockedRows`: rows of jobs behind one lock. Tests and benchmarks compare `SlotRows` with it.
 
 ghost use Rattle.std.specs.Prelude.{◌≡◌, ℕ, ◌+◌, ◌≤◌, List, [], map, IfOk, All};
 ghost use Rattle.std.specs.List.{range_with_len};
@@ -10,16 +10,16 @@ use std::alloc::{AllocError, Allocator, Global};
 use std::marker::Model;
 use std::sync::{Mutex, Wait};
 
-/// Rows behind one lock, which keep no accounts.
+/// Rows of jobs behind one lock. They keep no accounts.
 #[derive(Drop)]
 pub struct LockedRows<J, A: Allocator = Global> {
     rows: u16,
-    // Only contracts read it.
+    // How many seats own no row. Only contracts read this field.
     outsiders: u16,
     deques: Mutex<DequeRows<J, A>>,
 }
 
-/// A seat at `LockedRows`.
+/// A seat at `LockedRows`: its number.
 #[derive(Debug, Drop)]
 pub struct LockedSeat {
     number: u32,
@@ -35,7 +35,7 @@ impl Model for LockedSeat {
 }
 
 impl LockedSeat {
-    /// The seat's own row, where it has one.
+    /// Returns the number of the seat's own row. An outsider's is past the last row.
     fn row(&self) -> usize
         ensures { result ≡ self.now }
     {
@@ -50,7 +50,7 @@ impl<J: Drop, A: Allocator + Clone> Rows<J, A> for LockedRows<J, A> {
 
     ghost seat_count = { λ r. r.rows + r.outsiders };
 
-    // Any rows' seats will do, since a seat is no more than a number.
+    // A seat is only a number, so the seats of any rows will do.
     ghost Identity = { Unit {0} };
 
     ghost identity_of = { λ _. tt };
@@ -110,7 +110,7 @@ impl<J: Drop, A: Allocator + Clone> Rows<J, A> for LockedRows<J, A> {
     }
 }
 
-/// The seats from 0 on.
+/// Returns `count` seats, numbered from 0 on.
 fn seats<A: Allocator>(alloc: A, count: u32) -> Result<Vec<LockedSeat, A>, AllocError>
     ensures { IfOk result (λ seats. seats.items ≡ range_with_len 0 count) }
 {

@@ -1,9 +1,9 @@
-//! Memory that rows take at the start.
+//! Memory that rows allocate when they are opened.
 ghost use Rattle.std.specs.Prelude.{◌≡◌, [], vec_capacity, IfOk};
 
 use std::alloc::{AllocError, Allocator};
 
-/// An empty list with room for so many.
+/// Returns an empty list with room for `len` elements.
 pub(crate) fn room_for<T, A: Allocator + Clone>(
     alloc: &A,
     len: usize,

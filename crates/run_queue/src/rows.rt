@@ -1,4 +1,5 @@
-//! What rows of jobs do, whichever way they are kept: the seats of threads, and their account.
+//! `Rows`: the trait of rows of jobs that threads share, with their seats and their account.
+//! `SlotRows`, `LockedRows` and the rows of waking_rows implement it. worker_pool calls it.
 
 ghost use Rattle.std.specs.Prelude.{◌≡◌, ℕ, ◌+◌, ◌<◌, ◌≤◌, ◌↔◌, List, [], ◌++◌, length, map, All};
 ghost use Rattle.std.specs.Prelude.{IfOk, IfErr, IsErrOf, option_to_list};
@@ -11,14 +12,16 @@ use std::alloc::{AllocError, Allocator};
 use std::sync::Wait;
 use thiserror::Error;
 
-/// How many rows there are at most.
+/// The greatest number of rows.
 pub const MOST_ROWS: u16 = 256;
 
-/// Why rows were not made.
+/// Why rows could not be opened.
 #[derive(Clone, Copy, Debug, PartialEq, Eq, Hash, Error)]
 pub enum RowsFault {
+    /// More than `MOST_ROWS` rows were asked for. No memory was asked for.
     #[error("more than {MOST_ROWS} rows")]
     TooManyRows = 1,
+    /// An allocation failed.
     #[error("out of memory")]
     NoMemory = 2,
 }
@@ -31,16 +34,17 @@ impl From<AllocError> for RowsFault {
     }
 }
 
-/// Rows of jobs that threads share, each thread by a seat of its own.
+/// Rows of jobs that threads share. Each thread has a seat of its own.
 ///
-/// The seat of number k owns row k, where there is such a row: it alone puts jobs in at that row's
-/// front and takes them out there. Each seat may put and take at the back of every row. The seats
-/// past the rows are the outsiders.
+/// The seat of number k owns row k, if there is such a row. Only its owner puts jobs in and takes
+/// them out at the front of a row. Each seat may put and take at the back of every row. The seats
+/// whose numbers are past the rows are the outsiders.
 ///
-/// Where rows keep accounts, each seat tells which jobs went in and which came out through it, and
-/// at the end every job that was put in was taken out once or is left. Where they keep none, a
-/// refused put still gives its job back, and nothing else is said of jobs.
+/// If rows keep accounts, each seat knows which jobs went in and came out through it. At the end
+/// every job that was put in was taken out once, or is left. If rows keep no accounts, a refused
+/// put still returns its job, and no clause says more of jobs.
 pub trait Rows<J, A: Allocator>: Sized + Drop {
+    /// A thread's right to use the rows.
     type Seat: Drop;
 
     // How many rows there are, and how many seats were made with them.
@@ -48,7 +52,7 @@ pub trait Rows<J, A: Allocator>: Sized + Drop {
 
     ghost seat_count: { Self → ℕ };
 
-    // What tells these rows from others, and the rows that a seat was made with.
+    // What distinguishes these rows from others, and the rows with which a seat was made.
     ghost Identity: { Type 0 };
 
     ghost identity_of: { Self → Identity };
@@ -58,14 +62,15 @@ pub trait Rows<J, A: Allocator>: Sized + Drop {
     // A seat's number, from 0 on.
     ghost number_of: { Self.Seat → ℕ };
 
-    // Whether accounts are kept, and then the jobs that were put in and taken out through a seat.
+    // Whether accounts are kept; if so, which jobs were put in and taken out through a seat.
     ghost keeps_accounts: { Type 0 };
 
     ghost puts_of: { Self.Seat → List J };
 
     ghost takes_of: { Self.Seat → List J };
 
-    /// Empty rows and their seats, by number. This takes the memory of `drain_all` too.
+    /// Returns `rows` empty rows and `rows + outsiders` seats, by number. Allocates the memory that
+    /// `drain_all` needs, too.
     fn open(alloc: A, rows: u16, outsiders: u16) -> Result<(Self, Vec<Self::Seat, A>), RowsFault>
         ensures too_many { IsErrOf result RowsFault.TooManyRows ↔ (most_rows < rows) }
         ensures rows { IfOk result (λ r. row_count r.0 ≡ rows) }
@@ -76,7 +81,7 @@ pub trait Rows<J, A: Allocator>: Sized + Drop {
         ensures accounts { keeps_accounts → IfOk result (λ r.
             All (λ s. (puts_of s ≡ []) × (takes_of s ≡ [])) r.1.items) };
 
-    /// Puts a job in at the front of the seat's own row, or gives it back.
+    /// Puts a job in at the front of the seat's own row, or returns the job.
     fn put_front<R: Wait>(&self, rt: &R, seat: &mut Self::Seat, job: J) -> Result<(), J>
         requires ours { rows_of seat.old ≡ identity_of self.now }
         requires owner { number_of seat.old < row_count self.now }
@@ -86,7 +91,7 @@ pub trait Rows<J, A: Allocator>: Sized + Drop {
         ensures puts { keeps_accounts → AddsIfOk result job (puts_of seat.old) (puts_of seat.new) }
         ensures takes { keeps_accounts → takes_of seat.new ≡ takes_of seat.old };
 
-    /// Takes a job out at the front of the seat's own row.
+    /// Takes a job out at the front of the seat's own row. None if it finds none there.
     fn take_front<R: Wait>(&self, rt: &R, seat: &mut Self::Seat) -> Option<J>
         requires ours { rows_of seat.old ≡ identity_of self.now }
         requires owner { number_of seat.old < row_count self.now }
@@ -96,7 +101,7 @@ pub trait Rows<J, A: Allocator>: Sized + Drop {
         ensures takes { keeps_accounts →
             takes_of seat.new ≡ takes_of seat.old ++ option_to_list result };
 
-    /// Puts a job in at the back of a row, or gives it back.
+    /// Puts a job in at the back of a row, or returns the job.
     fn put_back<R: Wait>(&self, rt: &R, seat: &mut Self::Seat, row: u16, job: J) -> Result<(), J>
         requires ours { rows_of seat.old ≡ identity_of self.now }
         requires row { row < row_count self.now }
@@ -106,7 +111,7 @@ pub trait Rows<J, A: Allocator>: Sized + Drop {
         ensures puts { keeps_accounts → AddsIfOk result job (puts_of seat.old) (puts_of seat.new) }
         ensures takes { keeps_accounts → takes_of seat.new ≡ takes_of seat.old };
 
-    /// Takes a job out at the back of a row.
+    /// Takes a job out at the back of a row. None if it finds none there.
     fn take_back<R: Wait>(&self, rt: &R, seat: &mut Self::Seat, row: u16) -> Option<J>
         requires ours { rows_of seat.old ≡ identity_of self.now }
         requires row { row < row_count self.now }
@@ -116,8 +121,8 @@ pub trait Rows<J, A: Allocator>: Sized + Drop {
         ensures takes { keeps_accounts →
             takes_of seat.new ≡ takes_of seat.old ++ option_to_list result };
 
-    /// How many jobs are in a row. Other threads may change it at once. A job that a seat is about
-    /// to put or take may be counted too.
+    /// Returns how many jobs a row has. Other threads may change this at once. A job that a seat is
+    /// about to put or take may be counted too.
     fn row_length<R: Wait>(&self, rt: &R, seat: &mut Self::Seat, row: u16) -> u64
         requires ours { rows_of seat.old ≡ identity_of self.now }
         requires row { row < row_count self.now }
@@ -127,14 +132,15 @@ pub trait Rows<J, A: Allocator>: Sized + Drop {
         ensures puts { keeps_accounts → puts_of seat.new ≡ puts_of seat.old }
         ensures takes { keeps_accounts → takes_of seat.new ≡ takes_of seat.old };
 
-    /// What `drain_all` does, for an impl to write. It may take the seats out of the list.
+    /// Does what `drain_all` does. Each implementation writes this method; callers call
+    /// `drain_all`. It may take the seats out of the list.
     fn drain_with(self, seats: &mut Vec<Self::Seat, A>) -> Vec<J, A>
         requires ours { All (λ s. rows_of s ≡ identity_of self) seats.old.items }
         requires all { length seats.old.items ≡ seat_count self }
         ensures account { keeps_accounts →
             AccountsFor puts_of takes_of seats.old.items result.items };
 
-    /// Ends the rows, given all their seats, and hands out the jobs that are left, in any order.
+    /// Ends the rows, given all their seats, and returns the jobs that are left, in any order.
     final fn drain_all(self, mut seats: Vec<Self::Seat, A>) -> Vec<J, A>
         requires ours { All (λ s. rows_of s ≡ identity_of self) seats.items }
         requires all { length seats.items ≡ seat_count self }

@@ -1,4 +1,6 @@
-//! Rows of slots in one table: their owners come to the fronts without a lock.
+//! `SlotRows`: rows of slots in one table, whose owners need no lock at the fronts. The specs
+//! `Lengths` and `Positions` say which word is which, and `RowTable` has the table's rule. The
+//! modules here and waking_rows rely on these.
 ghost use Rattle.std.specs.Prelude.{◌≡◌, ◌*◌, ◌<◌, vec_len};
 ghost use Rattle.run_queue.specs.Lengths.{length_word};
 ghost use Rattle.run_queue.specs.Limits.{most_jobs};
@@ -24,19 +26,19 @@ pub(crate) mod seat;
 mod steps;
 pub(crate) mod view;
 
-/// The position at the back of a row.
+/// The back position of a row.
 #[derive(Drop)]
 pub struct Back {
+    /// The position of the next pop at the back.
     pub(crate) at: usize,
     ghost within: { at < most_jobs },
 }
 
 /// Rows of slots, which keep accounts.
 ///
-/// Word i of the table tells the phase of element i, and slot i has its job. A row is `ROW_JOBS`
-/// elements, which go round. Behind these words lie the lengths of the rows, each on a cache line of
-/// its own. A push claims its element, raises the length, and makes the element ready; a pop claims
-/// it, makes it empty, and lowers the length.
+/// Word i of the table is the phase of element i, and slot i has its job. A row is a ring of
+/// `ROW_JOBS` elements. The words of the lengths lie behind the words of the elements, each on a
+/// cache line of its own.
 #[derive(Drop)]
 pub struct SlotRows<J, A: Allocator = Global, F: Contents<J> = AnyJob> {
     pub(crate) rows: u16,

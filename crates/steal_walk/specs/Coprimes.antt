@@ -1,4 +1,4 @@
--- Coprimes: the numbers up to n that have no divisor with n but 1.
+-- The numbers up to n whose only common divisor with n is 1.
 
 use Rattle.std.specs.Prelude.{ℕ, ◌-◌, ◌%◌, ◌≤◌, ◌==◌, ◌&&◌, ◌↔◌, Bool, not, List, filter, Contains}
 use Rattle.std.specs.List.{list_all, range_with_len}

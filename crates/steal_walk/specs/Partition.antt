@@ -1,8 +1,8 @@
--- Partitions: which rows a worker looks at first.
+-- Partitions: the ranges of rows in which a worker looks first.
 
 use Rattle.std.specs.Prelude.{ℕ}
 
--- the rows from start up to limit
+-- the rows in `[start, limit)`
 pub record RowRange : Type 0 where
   pub start : ℕ
   pub limit : ℕ

@@ -1,4 +1,5 @@
-//! The numbers that have no divisor with n but 1, by which thieves step.
+//! The numbers coprime to n: the steps of walks over n rows. `walk.rt` takes its steps from this
+//! list, and `specs/Coprimes.antt` states which numbers it has.
 
 ghost use Rattle.std.specs.Prelude.{◌≡◌, ℕ, ◌≤◌, [], ◌∷◌, IfOk};
 ghost use Rattle.std.specs.Int.{IsGcd};
@@ -7,10 +8,11 @@ ghost use Rattle.steal_walk.specs.Coprimes.{coprimes_of, AreCoprimes};
 use std::alloc::{AllocError, Allocator, Global};
 use std::marker::Model;
 
-/// The numbers of `1..=n` that are coprime to `n`: the steps that reach each of `n` rows.
-/// Clauses see it as `n`.
+/// The numbers of `1..=n` that are coprime to `n`. A walk by any of these steps reaches each of `n`
+/// rows. Clauses see a `Coprimes` as `n`.
 #[derive(Debug, Drop)]
 pub struct Coprimes<A: Allocator = Global> {
+    // The number n of rows.
     of: u32,
     numbers: Vec<u32, A>,
 }
@@ -24,7 +26,8 @@ impl<A: Allocator> Model for Coprimes<A> {
 }
 
 impl<A: Allocator> Coprimes<A> {
-    /// Takes room for `n` numbers at once, and none later.
+    /// Returns the numbers that are coprime to `n`. Allocates room for `n` numbers once, and
+    /// returns an error if that fails.
     pub fn new(alloc: A, n: u32) -> Result<Coprimes<A>, AllocError>
         requires { 1 ≤ n }
         ensures { IfOk result (λ coprimes. coprimes ≡ n) }
@@ -38,7 +41,7 @@ impl<A: Allocator> Coprimes<A> {
         Ok(Coprimes { of: n, numbers })
     }
 
-    /// In ascending order, so 1 comes first.
+    /// Returns the numbers in ascending order, so 1 comes first.
     pub fn numbers(&self) -> &[u32]
         ensures listed { result.now ≡ coprimes_of self.now }
         ensures coprime { AreCoprimes self.now result.now }
@@ -48,6 +51,7 @@ impl<A: Allocator> Coprimes<A> {
     }
 }
 
+/// Returns the greatest common divisor of `a` and `b`.
 fn gcd(a: u32, b: u32) -> u32
     ensures { IsGcd a b result }
 {

@@ -1,8 +1,10 @@
-//! Which row a thief tries first, and in which order it goes on to the others.
+//! The order in which a worker with nothing to do tries the rows of others.
 //!
-//! A pool's worker with nothing to do walks once round the rows of its partition, from a random
-//! row on and by a random step that is coprime to their number, as Eigen's
-//! `NonBlockingThreadPool.h` does.
+//! A walk goes once round the rows of a range. It starts at a random row, and goes on by a random
+//! step that is coprime to the number of rows, as in Eigen's `NonBlockingThreadPool.h`.
+//!
+//! worker_pool draws the random words. Its proof that a worker looked at every row before it slept
+//! rests on `VisitsEachOnce` (`specs/Walk.antt`).
 #![tactic(auto)]
 
 pub mod coprimes;

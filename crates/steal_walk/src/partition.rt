@@ -1,4 +1,4 @@
-//! The ranges of rows that the workers of a pool look at first.
+//! The ranges of rows that the workers of a pool look at first. A pool's setup has a list of them.
 
 ghost use Rattle.std.specs.Prelude.{◌≡◌, ◌<◌, ◌≤◌, ◌↔◌, IsOk, IfOk, IsErrOf};
 
@@ -8,13 +8,15 @@ use thiserror::Error;
 /// Why a range of rows is no partition of a pool.
 #[derive(Clone, Copy, Debug, PartialEq, Eq, Error)]
 pub enum PartitionFault {
+    /// The range has no rows: `limit` is at most `start`.
     #[error("the partition is empty")]
     Empty = 1,
+    /// The range ends past the pool: `limit` is greater than the number of workers.
     #[error("the partition ends outside the pool")]
     OutOfPool = 2,
 }
 
-/// The rows `start..limit` of a pool, at least one, in which a worker looks first.
+/// A range `start..limit` of a pool's rows, not empty, in which a worker looks first.
 #[derive(Clone, Copy, Debug, PartialEq, Eq)]
 pub struct Partition {
     start: u32,
@@ -35,7 +37,7 @@ impl Model for Partition {
 }
 
 impl Partition {
-    /// The rows `start..limit` of a pool with so many workers.
+    /// Returns the range `start..limit` in a pool of `workers` workers, or why it is no partition.
     pub fn new(start: u32, limit: u32, workers: u32) -> Result<Partition, PartitionFault>
         ensures ok { IsOk result ↔ ((start < limit) × (limit ≤ workers)) }
         ensures rows { IfOk result (λ p. p ≡ record { start = start; limit = limit }) }
@@ -52,6 +54,7 @@ impl Partition {
         Ok(Partition { start, limit })
     }
 
+    /// Returns the first row of the range.
     pub fn start(&self) -> u32
         ensures value { result ≡ self.now.start }
         ensures not_empty { self.now.start < self.now.limit }
@@ -59,6 +62,7 @@ impl Partition {
         self.start
     }
 
+    /// Returns the row after the last row of the range.
     pub fn limit(&self) -> u32
         ensures value { result ≡ self.now.limit }
         ensures not_empty { self.now.start < self.now.limit }

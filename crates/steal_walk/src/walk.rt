@@ -1,4 +1,5 @@
-//! The order in which a thief looks at rows: from a drawn row on, by a drawn step.
+//! Walks: the order in which a thief looks at rows, from a random row on by a random step.
+//! `specs/Walk.antt` states this order, and callers prove with it that they looked everywhere.
 
 ghost use Rattle.std.specs.Prelude.{◌≡◌, ℕ, ◌+◌, ◌-◌, ◌*◌, ◌/◌, ◌^◌, ◌<◌};
 ghost use Rattle.std.specs.Prelude.{List, [], ◌∷◌, length};
@@ -10,15 +11,16 @@ use std::alloc::Allocator;
 use std::iter::{ExactSizeIterator, FusedIterator};
 use std::marker::Model;
 
-/// A walk over the rows of a range, each once, in the order in which a thief tries them. It takes
-/// no memory. Clauses see it as the list of the rows that are left.
+/// A walk over the rows of a range, each once, in the order in which a thief tries them. It
+/// allocates nothing. Clauses see it as the list of the rows that are left.
 #[derive(Clone, Debug, Drop)]
 pub struct Walk {
     start: u32,
     size: u32,
-    // Where the next row lies, counted from the start.
+    // The next row, counted from the start.
     place: u32,
     step: u32,
+    // How many rows are left.
     left: u32,
 }
 
@@ -31,9 +33,9 @@ impl Model for Walk {
 }
 
 impl Walk {
-    /// The walk over the rows `start..limit` that one word of a random generator picks. Both the
-    /// row that it begins at and its step, among the coprimes, stand where the word stands among
-    /// the words of 32 bits.
+    /// Returns the walk over the rows `start..limit` that a random word picks. The word picks both
+    /// the first row and the step: each lies as far along its list as the word lies among the words
+    /// of 32 bits.
     pub fn of<A: Allocator>(word: u32, start: u32, limit: u32, coprimes: &Coprimes<A>) -> Walk
         requires order { start < limit }
         requires sized { coprimes.now ≡ limit - start }
@@ -66,7 +68,7 @@ impl Iterator for Walk {
             return None;
         }
         let row = self.start + self.place;
-        // The place and the step together may pass 32 bits.
+        // The sum of the place and the step may overflow 32 bits.
         let wraps_from = self.size - self.step;
         self.place = if self.place < wraps_from {
             self.place + self.step
@@ -93,8 +95,8 @@ impl ExactSizeIterator for Walk {
 
 impl FusedIterator for Walk {}
 
-/// The place below `n` where the word stands among the words of 32 bits: Eigen's way to reduce a
-/// random word to a range without a division.
+/// Returns a number below `n`, as far along `0..n` as the word is among the words of 32 bits. This
+/// is Eigen's way to reduce a random word to a range without a division.
 fn scaled(word: u32, n: u32) -> u32
     requires { 0 < n }
     ensures place { result ≡ word * n / 2 ^ 32 }

@@ -27,7 +27,7 @@ same-more t ts us same =
     ∙ ap (λ r. map (λ x. x.dims) us ++ result_unwrap_or r [] ∷ []) (dims_of-same_dims widest t ts us same)
     ∙ sym (map-append (λ x. x.dims) us (tensor_of t us ∷ []))
 
--- those of several
+-- the tensors of several terms more, over tensors of the same dims
 pub same-worked_out : (terms : List Term) (ts us : List Contents) → HaveSameDims ts us
     → HaveSameDims (worked_out terms ts) (worked_out terms us)
 same-worked_out [] ts us same = same

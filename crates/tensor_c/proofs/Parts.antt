@@ -17,7 +17,7 @@ use Rattle.expr_reader.specs.declared.fault.Fault.{Fault}
 use Rattle.tensor_c.specs.Call.{begun}
 use Rattle.tensor_c.specs.Part.{part_of, called_for_part}
 
--- so many values from a place on are those of the whole
+-- n values of the whole tensor, from a place on, are the values at these places
 pub part-from : (t : Term) (inputs : List Contents) (first n : ℕ)
     → first + n ≤ size_of (shape_of t inputs)
     → take n (drop first (values_from t inputs 0 (size_of (shape_of t inputs)))) ≡ values_from t inputs first n

@@ -1,4 +1,4 @@
--- The answer of a frame: its tensor, or its first fault.
+-- The answer of a frame, or of a header with arrays: its tensor, or its first fault.
 use Rattle.std.specs.Prelude.{ℕ, ℤ, List, Result, Ok, Err}
 use Rattle.expr_reader.specs.Arrays.{request_of_arrays}
 use Rattle.expr_reader.specs.Contents.{Contents}
@@ -11,18 +11,18 @@ abbrev pub or_fault : {A B : Type 0} → (A → B) → Result A Fault → Result
 or_fault f (Ok x) = Ok (f x)
 or_fault f (Err fault) = Err fault
 
--- the tensor that a frame asks for
+-- the tensor that a frame asks for, or its first fault
 abbrev pub answer_of_frame : List ℕ → List ℤ → Result Contents Fault
 answer_of_frame header values = or_fault asked_tensor (request_of_frame header values)
 
--- the same where each tensor's values lie in an array of their own
+-- the tensor that a header with arrays asks for, or the first fault
 abbrev pub answer_of_arrays : List ℕ → List (List ℤ) → Result Contents Fault
 answer_of_arrays header arrays = or_fault asked_tensor (request_of_arrays header arrays)
 
--- the dims of a frame's tensor
+-- the dims of the tensor that a frame asks for, or its first fault
 abbrev pub answer_dims : List ℕ → List ℤ → Result (List ℕ) Fault
 answer_dims header values = or_fault (λ t. t.dims) (answer_of_frame header values)
 
--- those of the tensor of a header and arrays
+-- the dims of the tensor that a header with arrays asks for, or the first fault
 abbrev pub dims_of_arrays : List ℕ → List (List ℤ) → Result (List ℕ) Fault
 dims_of_arrays header arrays = or_fault (λ t. t.dims) (answer_of_arrays header arrays)

@@ -1,25 +1,26 @@
--- What a call for a part of the answer returns, and what it leaves in the list that its caller lends.
+-- What a call for a part of an answer returns, and what it writes to the caller's list.
 use Rattle.std.specs.Prelude.{◌≡◌, ◌⊎◌, ℕ, ℤ, pos, List, length, take, drop, Result, Ok, Err}
 use Rattle.expr_reader.specs.Contents.{Contents}
 use Rattle.expr_reader.specs.declared.fault.Fault.{Fault}
 use Rattle.expr_reader.specs.declared.fault.Fault.TheVariants.{NoMemory}
 use Rattle.tensor_c.specs.Call.{begun, fault_result}
 
--- the values from a place on, as many as there are and as there is room for
+-- the values from place `first` on, as many as there are and as there is room for
 abbrev pub part_of : List ℤ → ℕ → ℕ → List ℤ
 part_of values first room = take room (drop first values)
 
--- so many of these values are written over the first ones of a list
+-- the values from place `first` on are the first `count` elements of the list; the others stay
 abbrev pub IsPartIn : List ℤ → ℕ → List ℤ → ℕ → List ℤ → Type 0
 IsPartIn values first old count new =
     (count ≡ length (part_of values first (length old)))
     × (new ≡ begun (part_of values first (length old)) old)
 
+-- the result of a call for a part, and the list after it
 pub record CalledForPart : Type 0 where
   pub result : ℤ
   pub out : List ℤ
 
--- these values are written, and their number returned; of a fault nothing is written
+-- the call writes the part that fits, and returns its length; for a fault it writes nothing
 abbrev pub called_for_part : Result Contents Fault → ℕ → List ℤ → CalledForPart
 called_for_part (Ok t) first out =
     record {
@@ -28,7 +29,7 @@ called_for_part (Ok t) first out =
     }
 called_for_part (Err f) first out = record { result = fault_result f; out = out }
 
--- a call for a part does this, or it finds no memory, and then anything may stand in the list
+-- the call does what the answer says, or reports `NoMemory`, and then the list may have any values
 abbrev pub IsPartCall : Result Contents Fault → ℕ → List ℤ → CalledForPart → Type 0
 IsPartCall answer first out call =
     (call ≡ called_for_part answer first out)

@@ -1,5 +1,5 @@
-//! The answer's dims, and a part of its values, where each tensor's values lie in an array of their
-//! own.
+//! The calls for a header with arrays: a part of the answer, and its dims. They share `part.rt` and
+//! `asked.rt` with the calls for frames.
 
 ghost use Rattle.std.specs.Prelude.{◌≡◌, ◌⊎◌, length, Ok, Err, MatchResult, IsErrOf};
 ghost use Rattle.expr_reader.specs.Arrays.{arrays_under, joined};
@@ -13,7 +13,8 @@ use crate::part::put_part_of;
 use expr_reader::{Array, Dims, Fault, read_arrays};
 use std::alloc::Global;
 
-/// Writes the values of the tensor of a header and arrays from a place on, as `put_part` does.
+/// Writes values of the answer of a header and arrays to `out`, as
+/// [`crate::tensor_evaluate_arrays`] describes.
 pub(crate) fn put_part_over(
     alloc: Global,
     header: &[u8],
@@ -33,7 +34,7 @@ pub(crate) fn put_part_over(
     }
 }
 
-/// The dims of the tensor of a header and arrays. None of the arrays' values is read.
+/// Returns the dims of the answer of a header and arrays. No value of the arrays is read.
 pub(crate) fn dims_over(alloc: Global, header: &[u8], arrays: &[Array<'_>]) -> Result<Dims, Fault>
     ensures dims { MatchResult result
         (λ dims. dims_of_arrays header.now (arrays_under arrays.now) ≡ Ok dims)

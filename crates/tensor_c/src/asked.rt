@@ -1,4 +1,4 @@
-//! What a request asks for: the dims of its tensor, and an expression over inputs that have values.
+//! What a request asks for, in the form that `prepared_expressions` evaluates.
 
 ghost use Rattle.std.specs.Prelude.{◌≡◌, map, IfOk};
 ghost use Rattle.expr_reader.specs.Asked.{asked_under};
@@ -11,16 +11,16 @@ use expr_reader::{Binding, Dims, Expr, Request};
 use prepared_expressions::Filled;
 use std::alloc::{AllocError, Global};
 
-/// The dims of the tensor that a request asks for.
+/// Returns the dims of the tensor that a request asks for.
 pub(crate) fn dims_asked<'a>(request: &'a Request<'_>) -> &'a Dims
     ensures { result.now ≡ (asked_tensor (asked_under request.now)).dims }
 {
-    // Says that dims can go as far as the inputs' bounds.
+    // Called for its clause: dims can go as far as the inputs' bounds.
     let _limit = request.inputs.bounds();
     &request.dims
 }
 
-/// What a request asks for, as an expression over inputs that have values.
+/// Turns a request into an expression over inputs that have values.
 pub(crate) fn filled_of(alloc: Global, request: Request<'_>) -> Result<Filled<'_>, AllocError>
     ensures inputs { IfOk result (λ f. f.inputs ≡ request.entry.inputs) }
     ensures bindings { IfOk result (λ f.
@@ -35,7 +35,7 @@ pub(crate) fn filled_of(alloc: Global, request: Request<'_>) -> Result<Filled<'_
     })
 }
 
-/// The expressions of bindings.
+/// Returns the expressions of bindings.
 fn exprs_of(alloc: Global, bindings: Vec<Binding>) -> Result<Vec<Expr>, AllocError>
     ensures { IfOk result (λ exprs. exprs.items ≡ map (λ b. b.expr) bindings.items) }
 {

@@ -1,4 +1,5 @@
-//! What a frame asks for, worked out on the thread that asks.
+//! The calls for the whole tensor of a frame, and for its dims. All is evaluated on the calling
+//! thread.
 
 ghost use Rattle.std.specs.Prelude.{◌≡◌, ◌⊎◌, ℤ, List, Ok, Err, length, false};
 ghost use Rattle.std.specs.Prelude.{MatchResult, IfOk, IfErr, IsErrOf, pos, replicate};
@@ -17,8 +18,7 @@ use expr_reader::{
 use prepared_expressions::eval_filled;
 use std::alloc::Global;
 
-/// Writes the tensor of a frame, and returns how many values it has, or what stands for a fault or
-/// for too little room.
+/// Writes the answer of a frame, as [`crate::tensor_evaluate`] describes.
 pub(crate) fn put_answer(
     alloc: Global,
     header: &[u8],
@@ -38,8 +38,8 @@ pub(crate) fn put_answer(
     }
 }
 
-/// Writes the tensor that a request asks for. Room is looked at before memory is asked for, so want
-/// of memory never stands for too little room.
+/// Writes the tensor that a request asks for. The room is checked before the evaluation allocates,
+/// so too little room is never reported as an allocation failure.
 fn put_asked(alloc: Global, request: Request<'_>, out: &mut [i64], dims: &mut [u64]) -> i64
     ensures call { IsCall (Ok (asked_tensor (asked_under request.entry))) out.old dims.old
         (record { result = result; out = out.new; dims = dims.new }) }
@@ -55,7 +55,7 @@ fn put_asked(alloc: Global, request: Request<'_>, out: &mut [i64], dims: &mut [u
     }
 }
 
-/// The tensor that a request asks for.
+/// Evaluates the tensor that a request asks for.
 fn tensor_asked(alloc: Global, request: Request<'_>) -> Result<Tensor<'static>, Fault>
     ensures { MatchResult result (λ tensor. tensor ≡ asked_tensor (asked_under request.entry))
         (λ fault. fault ≡ Fault.NoMemory) }
@@ -69,8 +69,8 @@ fn tensor_asked(alloc: Global, request: Request<'_>) -> Result<Tensor<'static>, 
     }
 }
 
-/// The dims of the tensor of a frame with so many values. They are the same whatever the values
-/// are: zeroes stand for them.
+/// Returns the dims of the answer of a frame with `count` values. They do not depend on the values,
+/// so zeroes are read instead.
 pub(crate) fn dims_of(alloc: Global, header: &[u8], count: u64) -> Result<Dims, Fault>
     ensures dims { (values : List ℤ) → length values ≡ count → MatchResult result
         (λ dims. answer_dims header.now values ≡ Ok dims)
@@ -82,7 +82,8 @@ pub(crate) fn dims_of(alloc: Global, header: &[u8], count: u64) -> Result<Dims, 
     Ok(dims_asked(&request).copied())
 }
 
-/// Zeroes in the place of so many values behind a header, where neither is too long.
+/// Allocates `count` zeroes to read instead of the values after a header. A header that is too
+/// long, or has too many values after it, is refused before that.
 pub(crate) fn zeroes_for(alloc: Global, header: &[u8], count: u64) -> Result<Vec<i64>, Fault>
     ensures zeroes { IfOk result (λ zeroes. zeroes.items ≡ replicate count (pos 0)) }
     ensures fault { IfErr result (λ fault. (fault ≡ Fault.NoMemory)

@@ -1,4 +1,5 @@
-//! Faults as numbers, as a caller in another language has them.
+//! The numbers that calls return for faults and refusals. Callers in other languages know them: a
+//! change also changes `include/tensor.h`.
 
 ghost use Rattle.std.specs.Prelude.{◌≡◌, ◌≢◌, IfSome, IfNone};
 ghost use Rattle.expr_reader.specs.Faults.{fault_number};
@@ -9,17 +10,17 @@ ghost use Rattle.tensor_c.specs.Plan.{refusal_result};
 use expr_reader::Fault;
 use prepared_expressions::Refusal;
 
-/// What is returned for numbers that are no plan.
+/// The result for numbers that are not a plan.
 const NO_PLAN: i64 = -101;
 
-/// What is returned for a fault.
+/// Returns the result for a fault: its number, negated.
 pub(crate) fn result_of(fault: Fault) -> i64
     ensures { result ≡ fault_result fault }
 {
     -i64::from(fault.number())
 }
 
-/// What is returned for what is refused.
+/// Returns the result for a refusal: a fault's number, negated, or [`NO_PLAN`].
 pub(crate) fn result_of_refusal(refusal: Refusal) -> i64
     ensures { result ≡ refusal_result refusal }
 {
@@ -30,7 +31,7 @@ pub(crate) fn result_of_refusal(refusal: Refusal) -> i64
     }
 }
 
-/// The fault of a number.
+/// Returns the fault with this number.
 pub(crate) fn fault_of(number: u32) -> Option<Fault>
     ensures known { IfSome result (λ fault. fault_number fault ≡ number) }
     ensures unknown { IfNone result ((fault : Fault) → fault_number fault ≢ number) }

@@ -1,4 +1,5 @@
-//! What the parts of an answer have to do with the whole.
+//! Laws of calls for parts: how the parts of an answer, or a plan and its header, belong together.
+//! Each function does nothing, and its contract is the law.
 
 ghost use Rattle.std.specs.Prelude.{◌≡◌, ◌≤◌, ◌+◌, ◌++◌, ℕ, ℤ, List, length, Result, Ok};
 ghost use Rattle.expr_reader.specs.Arrays.{joined};
@@ -10,8 +11,8 @@ ghost use Rattle.tensor_c.specs.Answer.{answer_of_arrays};
 ghost use Rattle.tensor_c.specs.Part.{part_of, called_for_part};
 ghost use Rattle.tensor_c.specs.Plan.{prepared_of, answer_of_plan};
 
-/// Parts put together are the whole: a part and the one behind it are one part, and the first one
-/// is all values where it has room for them.
+/// A part and the part after it, joined, are one part. A part from place 0 with enough room is all
+/// values.
 pub fn parts_make_the_whole()
     ensures joined { (values : List ℤ) (first n m : ℕ)
         → part_of values first n ++ part_of values (first + n) m
@@ -20,8 +21,8 @@ pub fn parts_make_the_whole()
         → part_of values 0 room ≡ values }
 {}
 
-/// Calls for parts of one answer, into lists that lie one behind the other and each from the place
-/// on that its list has, leave in them what one call leaves in all.
+/// Two calls for parts of one answer, the second from the place where the first list ends, write
+/// what one call writes to both lists joined.
 pub fn calls_for_parts_are_one()
     ensures { (answer : Result Contents Fault) (first : ℕ) (out behind : List ℤ)
         → (called_for_part answer first out).out
@@ -29,8 +30,8 @@ pub fn calls_for_parts_are_one()
         ≡ (called_for_part answer first (out ++ behind)).out }
 {}
 
-/// A plan answers over arrays what its header does over them, whatever the values were that it was
-/// prepared over, where the arrays have no more values than may stand behind the header.
+/// A plan has the answer over arrays that its header has over them, whatever values it was prepared
+/// with. The arrays must not have more values in all than may follow the header.
 pub fn plans_answer_for_headers()
     ensures { (header : List ℕ) (values : List ℤ) (arrays : List (List ℤ)) (a : Asked)
         → request_of_frame header values ≡ Ok a → length (joined arrays) ≤ values_limit header

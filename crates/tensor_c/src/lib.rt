@@ -1,6 +1,6 @@
-//! Frames answered in the process that asks: a header and values in, a tensor or a fault out. It is
-//! what programs in C, Rust, Python and others call, on the thread that calls. include/tensor.h
-//! says what a caller owes.
+//! The C library: frames answered in the caller's process and on its thread. Each exported function
+//! stands in `include/tensor.h`, which says what a caller must guarantee; a change here also
+//! changes that file, `examples/`, `python/` and the tests of the library.
 #![tactic(auto)]
 
 mod arrays;
@@ -30,18 +30,20 @@ ghost use Rattle.tensor_c.specs.Shared.{shared_over, called_for_count, IsCountCa
 
 use crate::arrays::{dims_over, put_part_over};
 use crate::evaluation::{dims_of, put_answer};
-use crate::faults::{fault_of, result_of};
+use crate::faults::fault_of;
 use crate::part::put_part;
 use crate::plan::{put_plan, put_planned};
-use crate::room::{put_dims, put_text};
+use crate::room::{put_found, put_text};
 use crate::shared::shared_by_parts;
 use expr_reader::Array;
 pub use laws::{calls_for_parts_are_one, parts_make_the_whole, plans_answer_for_headers};
 use std::alloc::Global;
 
-/// Writes the tensor of a frame, its values into `out`, its rank and then its dims into `dims`, and
-/// returns how many values there are. Of a fault the number is returned, negated, and where there
-/// is too little room -100; then nothing is written.
+/// Evaluates a frame. Writes the values of the answer to `out`, and its rank and then its dims to
+/// `dims`. Returns the number of values.
+///
+/// If the frame has a fault, the fault's number is returned, negated; if `out` or `dims` is too
+/// short, -100. Nothing is written then.
 #[unsafe(no_mangle)]
 pub extern "C" fn tensor_evaluate(
     alloc: Global,
@@ -59,10 +61,12 @@ pub extern "C" fn tensor_evaluate(
     put_answer(alloc, header, values, out, dims)
 }
 
-/// Writes values of the tensor of a frame, from the one at a place on, as many as there are and as
-/// `out` has room for, and returns how many are written. So calls from several threads, each with
-/// a list of its own, share one answer. Of a fault the number is returned, negated, and nothing is
-/// written; where there is no memory (-15) anything may stand in `out` then.
+/// Writes values of the answer of a frame to `out`, the value at place `first` first: as many as
+/// there are from there on, and as fit. Returns how many. Threads that call it with different
+/// places and lists share one answer.
+///
+/// If the frame has a fault, the fault's number is returned, negated, and nothing is written. After
+/// -15 (`NoMemory`) `out` may have any values.
 #[unsafe(no_mangle)]
 pub extern "C" fn tensor_evaluate_part(
     alloc: Global,
@@ -80,8 +84,8 @@ pub extern "C" fn tensor_evaluate_part(
     put_part(alloc, header, values, first, out)
 }
 
-/// Does as [`tensor_evaluate_part`] where each tensor's values lie in an array of their own: an
-/// array a tensor, in the order of their names.
+/// Writes values of an answer as [`tensor_evaluate_part`] does, of a header with an array of values
+/// for each tensor, in the order of the tensors' names.
 #[unsafe(no_mangle)]
 pub extern "C" fn tensor_evaluate_arrays(
     alloc: Global,
@@ -99,9 +103,11 @@ pub extern "C" fn tensor_evaluate_arrays(
     put_part_over(alloc, header, arrays, first, out)
 }
 
-/// Writes the rank and the dims of the tensor of a frame with so many values, whatever they are,
-/// and returns how many values the tensor has. None of them is worked out. Faults and too little
-/// room are answered as by [`tensor_evaluate`].
+/// Writes the rank and then the dims of the answer of a frame with `count` values, and returns how
+/// many values the answer has. The dims do not depend on the values, and nothing is evaluated.
+///
+/// If the frame has a fault, the fault's number is returned, negated; if `dims` is too short, -100.
+/// Nothing is written then.
 #[unsafe(no_mangle)]
 pub extern "C" fn tensor_dims(alloc: Global, header: &[u8], count: u64, dims: &mut [u64]) -> i64
     ensures call { (values : List ℤ) → length values ≡ count
@@ -110,14 +116,12 @@ pub extern "C" fn tensor_dims(alloc: Global, header: &[u8], count: u64, dims: &m
     ensures too_long { IsTooLong header.now count → record { result = result; dims = dims.new }
         ≡ called_for_dims (Err Fault.TooLong) dims.old }
 {
-    match dims_of(alloc, header, count) {
-        Ok(found) => put_dims(&found, dims),
-        Err(fault) => result_of(fault),
-    }
+    put_found(dims_of(alloc, header, count), dims)
 }
 
-/// Does as [`tensor_dims`] where each tensor's values lie in an array of their own. No value is
-/// read, and no memory asked for that grows with their number.
+/// Writes the rank and then the dims of an answer as [`tensor_dims`] does, of a header with an
+/// array of values for each tensor. No value is read, and no allocation grows with the number of
+/// values.
 #[unsafe(no_mangle)]
 pub extern "C" fn tensor_dims_of_arrays(
     alloc: Global,
@@ -131,15 +135,15 @@ pub extern "C" fn tensor_dims_of_arrays(
         → record { result = result; dims = dims.new }
         ≡ called_for_dims (Err Fault.TooLong) dims.old }
 {
-    match dims_over(alloc, header, arrays) {
-        Ok(found) => put_dims(&found, dims),
-        Err(fault) => result_of(fault),
-    }
+    put_found(dims_over(alloc, header, arrays), dims)
 }
 
-/// Writes the plan of a header over so many values, whatever they are: numbers that [`tensor_run`]
-/// answers with, over any arrays of the header's dims. Returns how many numbers there are. Faults
-/// and too little room are answered as by [`tensor_evaluate`].
+/// Writes the plan of a header with `count` values: numbers from which [`tensor_run`] evaluates the
+/// header's expression over any arrays with the header's dims. Returns how many numbers the plan
+/// has.
+///
+/// If the header has a fault, the fault's number is returned, negated; if `plan` is too short,
+/// -100. Nothing is written then.
 #[unsafe(no_mangle)]
 pub extern "C" fn tensor_prepare(alloc: Global, header: &[u8], count: u64, plan: &mut [u64]) -> i64
     ensures call { IsPlanCall (plan_over header.now count) plan.old
@@ -152,8 +156,11 @@ pub extern "C" fn tensor_prepare(alloc: Global, header: &[u8], count: u64, plan:
     put_plan(alloc, header, count, plan)
 }
 
-/// Does as [`tensor_evaluate_arrays`] with a plan in the place of the header, which was read once.
-/// Numbers that are no plan are -101, or the fault of arrays that don't fit, and nothing is written.
+/// Writes values of an answer as [`tensor_evaluate_arrays`] does, from a plan in place of a header.
+/// No text is parsed.
+///
+/// If the lengths of the arrays differ from the header's dims, -7 is returned. If the numbers are
+/// not a plan at all, -101, -7 or -15 is returned. Nothing is written then.
 #[unsafe(no_mangle)]
 pub extern "C" fn tensor_run(
     alloc: Global,
@@ -172,9 +179,11 @@ pub extern "C" fn tensor_run(
     put_planned(alloc, plan, arrays, first, out)
 }
 
-/// How many values each part of the answer of a header and arrays works out anew, before the first
-/// of its own: what lies below the outermost operation and isn't worked out place by place. None is
-/// worked out. Of a fault the number is returned, negated.
+/// Returns how many values each call for a part of an answer computes before its own: values below
+/// the outermost operation that are stored as lists, and the tensors of bindings. Nothing is
+/// evaluated. A caller uses it to choose the number of parts.
+///
+/// If the header and the arrays have a fault, the fault's number is returned, negated.
 #[unsafe(no_mangle)]
 pub extern "C" fn tensor_shared(alloc: Global, header: &[u8], arrays: &[Array<'_>]) -> i64
     ensures call { IsCountCall (shared_over header.now (arrays_under arrays.now)) result }
@@ -184,9 +193,11 @@ pub extern "C" fn tensor_shared(alloc: Global, header: &[u8], arrays: &[Array<'_
     shared_by_parts(alloc, header, arrays)
 }
 
-/// Writes the name of the fault of a number, with a 0 behind it as C ends a text, and returns how
-/// many bytes the name has. It is 0 where no fault has the number, and -100 where there is too
-/// little room; then nothing is written.
+/// Writes the name of the fault with this number, and a 0 byte after it. Returns how many bytes the
+/// name has, without the 0.
+///
+/// If no fault has this number, 0 is returned; if `name` is too short, -100. Nothing is written
+/// then.
 #[unsafe(no_mangle)]
 pub extern "C" fn tensor_fault_name(number: u32, name: &mut [u8]) -> i64
     ensures known { (fault : Fault) → fault_number fault ≡ number

@@ -1,4 +1,5 @@
-//! A part of an answer, written where the caller wants it.
+//! The calls for a part of an answer. The bindings and the stored operands are computed anew in
+//! each call; `shared.rt` counts them.
 
 ghost use Rattle.std.specs.Prelude.{◌≡◌, length, Ok, Err};
 ghost use Rattle.expr_reader.specs.Asked.{asked_under};
@@ -17,9 +18,7 @@ use expr_reader::{Fault, Request, read_frame};
 use prepared_expressions::{Filled, fill_from};
 use std::alloc::Global;
 
-/// Writes the values of the tensor of a frame from a place on, as many as there are and as there is
-/// room for, and answers how many, or a fault's number, negated. Want of memory leaves anything in
-/// the list, any other fault what was there.
+/// Writes values of the answer of a frame to `out`, as [`crate::tensor_evaluate_part`] describes.
 pub(crate) fn put_part(
     alloc: Global,
     header: &[u8],
@@ -39,7 +38,8 @@ pub(crate) fn put_part(
     }
 }
 
-/// Writes the same of what a request asks for.
+/// Writes values of the tensor that a request asks for to `out`, from place `first` on. Returns how
+/// many, or -15.
 pub(crate) fn put_part_of(alloc: Global, request: Request<'_>, first: u64, out: &mut [i64]) -> i64
     ensures { IsPartCall (Ok (asked_tensor (asked_under request.entry))) first out.old
         (record { result = result; out = out.new }) }
@@ -50,7 +50,8 @@ pub(crate) fn put_part_of(alloc: Global, request: Request<'_>, first: u64, out: 
     }
 }
 
-/// Writes the same of an expression over its tensors.
+/// Writes values of a prepared expression to `out`, from place `first` on. Returns how many, or the
+/// result for a refusal.
 pub(crate) fn put_filled(alloc: Global, filled: &Filled<'_>, first: u64, out: &mut [i64]) -> i64
     ensures call { HaveDims filled.now.inputs.bounds (terms_under filled.now)
         filled.now.inputs.tensors

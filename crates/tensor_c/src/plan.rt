@@ -1,10 +1,12 @@
-//! Plans: what a header asks for, written as numbers, and what these answer over arrays.
+//! The calls that write and run a plan. A plan is the record of a prepared expression, so its
+//! format belongs to `prepared_expressions`.
 
 ghost use Rattle.std.specs.Prelude.{◌≡◌, ◌≢◌, ◌⊎◌, ◌≤ℤ◌, pos, Ok, Err, length};
 ghost use Rattle.std.specs.Prelude.{IfOk, IsErrOf, MatchResult};
 ghost use Rattle.expr_reader.specs.Arrays.{arrays_under};
 ghost use Rattle.expr_reader.specs.Request.{Asked};
 ghost use Rattle.prepared_expressions.specs.Prepared.{Prepared, record_of};
+ghost use Rattle.tensor_c.specs.Answer.{or_fault};
 ghost use Rattle.tensor_c.specs.Call.{IsTooLong};
 ghost use Rattle.tensor_c.specs.Part.{IsPartCall};
 ghost use Rattle.tensor_c.specs.Plan.{asked_over, plan_over, prepared_of, called_for_plan};
@@ -19,8 +21,7 @@ use expr_reader::{Array, Fault, read_frame};
 use prepared_expressions::{prepare, read_over};
 use std::alloc::Global;
 
-/// Writes the plan of a header over so many values, and returns how many numbers it has, or what
-/// stands for a fault or for too little room.
+/// Writes the plan of a header, as [`crate::tensor_prepare`] describes.
 pub(crate) fn put_plan(alloc: Global, header: &[u8], count: u64, plan: &mut [u64]) -> i64
     ensures call { IsPlanCall (plan_over header.now count) plan.old
         (record { result = result; plan = plan.new }) }
@@ -29,13 +30,11 @@ pub(crate) fn put_plan(alloc: Global, header: &[u8], count: u64, plan: &mut [u64
     ensures too_long { IsTooLong header.now count → record { result = result; plan = plan.new }
         ≡ called_for_plan (Err Fault.TooLong) plan.old }
 {
-    match plan_of(alloc, header, count) {
-        Ok(numbers) => put_numbers(numbers.as_slice(), plan),
-        Err(fault) => result_of(fault),
-    }
+    put_found_plan(plan_of(alloc, header, count), plan)
 }
 
-/// The plan of a header over so many values. They are no part of it: zeroes stand for them.
+/// Returns the plan of a header with `count` values. The values are not part of a plan, so zeroes
+/// are read instead.
 fn plan_of(alloc: Global, header: &[u8], count: u64) -> Result<Vec<u64>, Fault>
     ensures numbers { MatchResult result
         (λ numbers. plan_over header.now count ≡ Ok numbers.items)
@@ -55,7 +54,19 @@ fn plan_of(alloc: Global, header: &[u8], count: u64) -> Result<Vec<u64>, Fault>
     }
 }
 
-/// Writes numbers where they have room, and returns how many they are.
+/// Writes the plan that was found, as [`put_numbers`] does, or returns the result for a fault. So too
+/// little room is never reported as an allocation failure.
+fn put_found_plan(found: Result<Vec<u64>, Fault>, plan: &mut [u64]) -> i64
+    ensures { record { result = result; plan = plan.new }
+        ≡ called_for_plan (or_fault (λ numbers. numbers.items) found) plan.old }
+{
+    match found {
+        Ok(numbers) => put_numbers(numbers.as_slice(), plan),
+        Err(fault) => result_of(fault),
+    }
+}
+
+/// Writes a plan if it fits, and returns how many numbers it has. Otherwise returns [`NO_ROOM`].
 fn put_numbers(numbers: &[u64], plan: &mut [u64]) -> i64
     ensures { record { result = result; plan = plan.new }
         ≡ called_for_plan (Ok numbers.now) plan.old }
@@ -67,8 +78,7 @@ fn put_numbers(numbers: &[u64], plan: &mut [u64]) -> i64
     numbers.len() as i64
 }
 
-/// Writes what a plan answers over arrays from a place on, as `put_part` does, or returns what
-/// stands for numbers that are no plan.
+/// Writes values of the answer of a plan over arrays, as [`crate::tensor_run`] describes.
 pub(crate) fn put_planned(
     alloc: Global,
     plan: &[u64],

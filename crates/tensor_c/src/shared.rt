@@ -1,4 +1,6 @@
-//! How many values each part of an answer works out anew, before its first one.
+//! Counts the values that each call for a part of an answer computes before its own. It mirrors
+//! what `tensor_ops` stores as a list: if an operation stores its operand in another way, this file
+//! and `specs/Shared` change.
 
 ghost use Rattle.std.specs.Prelude.{◌≡◌, ◌<◌, ◌≤◌, ◌+◌, ◌*◌, ◌^◌, length, map, IsTrue, Err, Ok};
 ghost use Rattle.std.specs.Prelude.{IfOk, MatchResult};
@@ -11,28 +13,27 @@ ghost use Rattle.expr_reader.specs.Legal.{widest, most_elements};
 ghost use Rattle.expr_reader.specs.Request.{tensors_of};
 ghost use Rattle.expr_reader.specs.Result.{dims_of, operand_dims};
 ghost use Rattle.expr_reader.specs.Term.{has_inputs, nodes_of};
-ghost use Rattle.expr_reader.specs.Tree.{term_of, unary_at, binary_at, movement_at};
+ghost use Rattle.expr_reader.specs.Tree.{term_of, unary_at, binary_at};
 ghost use Rattle.tensor_c.specs.Call.{IsTooLong};
 ghost use Rattle.tensor_c.specs.Shared.{shared, shared_whole, asked_shared, shared_over};
 ghost use Rattle.tensor_c.specs.Shared.{called_for_count, IsCountCall};
-ghost use Rattle.tensor_c.specs.Shared.{combines, combines_two, is_movement, is_reshape};
-ghost use Rattle.tensor_c.specs.Shared.{is_combined, is_listed, is_moved_list, keeps_places};
+ghost use Rattle.tensor_c.specs.Shared.{is_listed, is_moved_list};
 ghost use Rattle.tensor_c.specs.Shared.{combined_size, whole_size, operand_size, either_size};
 
 use crate::faults::result_of;
 use expr_reader::{Array, Fault, Request, read_arrays};
 use std::alloc::Global;
-use tensor_ops::{Binary, Dims, Expr, ExprFault, Movement, Node, Unary, WIDEST};
+use tensor_ops::{Binary, Dims, Expr, ExprFault, Node, Unary, WIDEST};
 
-/// The dims of an expression, and how many values are worked out below its last operation.
+/// The dims of an expression, and how many values are computed below its last operation.
 #[derive(Drop)]
 struct Found {
     dims: Dims,
     shared: u64,
 }
 
-/// How many values each part of the answer of a header and arrays works out anew, or what stands
-/// for a fault. None is worked out.
+/// Returns how many values each part of the answer of a header and arrays computes before its own,
+/// or the result for a fault. Nothing is evaluated.
 pub(crate) fn shared_by_parts(alloc: Global, header: &[u8], arrays: &[Array<'_>]) -> i64
     ensures call { IsCountCall (shared_over header.now (arrays_under arrays.now)) result }
     ensures too_long { IsTooLong header.now (length (joined (arrays_under arrays.now)))
@@ -44,13 +45,13 @@ pub(crate) fn shared_by_parts(alloc: Global, header: &[u8], arrays: &[Array<'_>]
     }
 }
 
-/// The same of a request: its bindings whole, and what lies below the last operation of its
-/// expression.
+/// Returns how many values each part of a request's answer computes before its own: all values of
+/// the bindings, and the values below the last operation of the expression.
 fn shared_of(request: &Request<'_>) -> u64
     ensures value { result ≡ asked_shared (asked_under request.now) }
     ensures small { result < 2 ^ 63 }
 {
-    // Says that dims can go as far as the inputs' bounds.
+    // Called for its clause: dims can go as far as the inputs' bounds.
     let _limit = request.inputs.bounds();
     let bindings = shared_whole(request);
     let Ok(found) = counted(request, &request.expr) else {
@@ -59,14 +60,14 @@ fn shared_of(request: &Request<'_>) -> u64
     bindings + found.shared
 }
 
-/// How many values of the tensors of bindings, and how many are worked out below the last operation
-/// of each.
+/// Returns how many values the tensors of the bindings have, and how many are computed below the
+/// last operation of each.
 fn shared_whole(request: &Request<'_>) -> u64
     ensures value { result ≡ shared_whole (tensors_of (asked_under request.now))
         (terms_under request.now.bindings.items) }
     ensures small { result ≤ most_elements * nodes_in (terms_under request.now.bindings.items) }
 {
-    // Says that dims can go as far as the inputs' bounds.
+    // Called for its clause: dims can go as far as the inputs' bounds.
     let _limit = request.inputs.bounds();
     let mut shared = 0;
     for binding in &request.bindings {
@@ -78,9 +79,9 @@ fn shared_whole(request: &Request<'_>) -> u64
     shared
 }
 
-/// The dims of an expression over a request's tensors, of which each operand's are found once, and
-/// what is worked out below its last operation: of each node there at most as many values as a tensor
-/// has, so no sum wraps.
+/// Returns the dims of an expression over a request's tensors, and how many values are computed
+/// below its last operation. The dims of each operand are found once. The count is at most the
+/// largest tensor times the number of nodes, so no sum wraps.
 fn counted(request: &Request<'_>, expr: &Expr) -> Result<Found, ExprFault>
     requires inputs { IsTrue (has_inputs (term_of expr.now)
         (length request.now.inputs.tensors + length request.now.bindings.items)) }
@@ -128,12 +129,12 @@ fn counted(request: &Request<'_>, expr: &Expr) -> Result<Found, ExprFault>
     }
 }
 
-/// The dims of the tensor of a number: of an input, or behind these of a binding.
+/// Returns the dims of the input or binding with this number.
 fn dims_known<'a>(request: &'a Request<'_>, number: u32) -> &'a Dims
     requires { number < length request.now.inputs.tensors + length request.now.bindings.items }
     ensures { result.now ≡ (input_of (tensors_of (asked_under request.now)) number).dims }
 {
-    // Says that dims can go as far as the inputs' bounds.
+    // Called for its clause: dims can go as far as the inputs' bounds.
     let _limit = request.inputs.bounds();
     let count = request.inputs.len();
     if number < count {
@@ -142,7 +143,7 @@ fn dims_known<'a>(request: &'a Request<'_>, number: u32) -> &'a Dims
     &request.bindings[(number - count) as usize].dims
 }
 
-/// The dims of an operation over a request's tensors, where those of its operands are these.
+/// Returns the dims of an operation whose operands have the dims `operands`.
 fn operation_dims(request: &Request<'_>, expr: &Expr, operands: &[Dims]) -> Result<Dims, ExprFault>
     requires some { 0 < length operands.now }
     requires operands { operand_dims widest (term_of expr.now) (tensors_of (asked_under request.now))
@@ -152,20 +153,22 @@ fn operation_dims(request: &Request<'_>, expr: &Expr, operands: &[Dims]) -> Resu
     expr.dims_by(WIDEST, operands)
 }
 
-/// How many values an operation has worked out of an operand of these dims.
+/// Returns how many values of the operand `a` are computed and stored before the operation's own
+/// values.
 fn operand_size(operation: Unary<'_>, a: &Expr, dims: &Dims) -> u64
     ensures value { result
         ≡ operand_size (unary_at operation.entry) (term_of a.now) (size_of dims.now) }
     ensures small { result ≤ most_elements }
 {
-    if combines(operation) {
+    if operation.combines() {
         whole_size(is_listed(a), a, dims)
     } else {
         combined_size(a, dims)
     }
 }
 
-/// How many values an operation on two has worked out of either of them.
+/// Returns how many values of the operand `a` are computed and stored before the own values of an
+/// operation on two operands.
 fn either_size(operation: Binary<'_>, a: &Expr, dims: &Dims) -> u64
     ensures value { result
         ≡ either_size (binary_at operation.entry) (term_of a.now) (size_of dims.now) }
@@ -178,15 +181,17 @@ fn either_size(operation: Binary<'_>, a: &Expr, dims: &Dims) -> u64
     }
 }
 
-/// How many values are worked out of an operand of these dims that is read place by place.
+/// Returns how many values are stored of an operand that is read place by place: all, if its last
+/// operation combines values, or else none.
 fn combined_size(expr: &Expr, dims: &Dims) -> u64
     ensures value { result ≡ combined_size (term_of expr.now) (size_of dims.now) }
     ensures small { result ≤ most_elements }
 {
-    if is_combined(expr) { dims.size() } else { 0 }
+    if expr.combines() { dims.size() } else { 0 }
 }
 
-/// How many are worked out of one that lies somewhere already, or is to be worked out whole.
+/// Returns how many values are stored of an operand that has to be a list: all, except for an input
+/// or a movement whose values are in a list already (`lies`).
 fn whole_size(lies: bool, expr: &Expr, dims: &Dims) -> u64
     ensures value { result ≡ whole_size lies (term_of expr.now) (size_of dims.now) }
     ensures small { result ≤ most_elements }
@@ -198,100 +203,32 @@ fn whole_size(lies: bool, expr: &Expr, dims: &Dims) -> u64
     }
 }
 
-/// Whether the last operation of an expression combines many values into one.
-fn is_combined(expr: &Expr) -> bool
-    ensures { result ≡ is_combined (term_of expr.now) }
-{
-    match expr.node() {
-        Node::Input(_) | Node::Ternary(_, _, _, _) => false,
-        Node::Unary(operation, _) => combines(operation),
-        Node::Binary(operation, _, _) => combines_two(operation),
-    }
-}
-
-/// Whether its values lie in a list, in order.
+/// Returns whether the values of an expression are a list in the order of its places: an input, a
+/// stored result, or a reshape of one.
 fn is_listed(expr: &Expr) -> bool
     ensures { result ≡ is_listed (term_of expr.now) }
 {
     match expr.node() {
         Node::Input(_) => true,
         Node::Unary(operation, a) => {
-            combines(operation) || (is_reshape(operation) && is_listed(a))
+            operation.combines() || (operation.is_reshape() && is_listed(a))
         }
-        Node::Binary(operation, _, _) => combines_two(operation),
+        Node::Binary(operation, _, _) => operation.combines(),
         Node::Ternary(_, _, _, _) => false,
     }
 }
 
-/// Whether they are read of such a list, in whatever order.
+/// Returns whether the values of an expression are in a list, in any order: an input, a stored
+/// result, or a movement of one.
 fn is_moved_list(expr: &Expr) -> bool
     ensures { result ≡ is_moved_list (term_of expr.now) }
 {
     match expr.node() {
         Node::Input(_) => true,
         Node::Unary(operation, a) => {
-            combines(operation) || (is_movement(operation) && is_moved_list(a))
+            operation.combines() || (operation.is_movement() && is_moved_list(a))
         }
-        Node::Binary(operation, _, _) => combines_two(operation),
+        Node::Binary(operation, _, _) => operation.combines(),
         Node::Ternary(_, _, _, _) => false,
-    }
-}
-
-fn combines(operation: Unary<'_>) -> bool
-    ensures { result ≡ combines (unary_at operation.entry) }
-{
-    match operation {
-        Unary::Each(_) | Unary::Constant(_) | Unary::Move(_) | Unary::Pad(_) => false,
-        Unary::Reduce(_, _) | Unary::Along(_, _) => true,
-    }
-}
-
-fn combines_two(operation: Binary<'_>) -> bool
-    ensures { result ≡ combines_two (binary_at operation.entry) }
-{
-    match operation {
-        Binary::Pairwise(_) | Binary::Concat(_) => false,
-        Binary::Contract(_) | Binary::Convolve(_) | Binary::Take(_) => true,
-    }
-}
-
-fn is_movement(operation: Unary<'_>) -> bool
-    ensures { result ≡ is_movement (unary_at operation.entry) }
-{
-    match operation {
-        Unary::Each(_)
-        | Unary::Constant(_)
-        | Unary::Pad(_)
-        | Unary::Reduce(_, _)
-        | Unary::Along(_, _) => false,
-        Unary::Move(_) => true,
-    }
-}
-
-fn is_reshape(operation: Unary<'_>) -> bool
-    ensures { result ≡ is_reshape (unary_at operation.entry) }
-{
-    match operation {
-        Unary::Each(_)
-        | Unary::Constant(_)
-        | Unary::Pad(_)
-        | Unary::Reduce(_, _)
-        | Unary::Along(_, _) => false,
-        Unary::Move(movement) => keeps_places(movement),
-    }
-}
-
-/// Whether a movement leaves each value at its place.
-fn keeps_places(movement: Movement<'_>) -> bool
-    ensures { result ≡ keeps_places (movement_at movement.entry) }
-{
-    match movement {
-        Movement::Reshape(_) => true,
-        Movement::Broadcast(_)
-        | Movement::Slice(_, _)
-        | Movement::Shuffle(_)
-        | Movement::Chip(_, _)
-        | Movement::Reverse(_)
-        | Movement::Stride(_) => false,
     }
 }

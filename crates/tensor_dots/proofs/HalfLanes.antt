@@ -32,7 +32,7 @@ pub at-both : (f : ℕ → ℕ → ℕ) (xs ys : List ℕ) (n r : ℕ) → lengt
     → get_or (zip2 f xs ys) r 0 ≡ f (get_or xs r 0) (get_or ys r 0)
 at-both f xs ys n r hx hy h = get_or-zip2 f xs ys r 0 0 0 (omega arith) (omega arith)
 
--- the same number in four lanes
+-- one number in four lanes
 at-spread : (k r : ℕ) → r < 4 → get_or (k ∷ k ∷ k ∷ k ∷ []) r 0 ≡ k
 at-spread k zero h = refl
 at-spread k (suc zero) h = refl

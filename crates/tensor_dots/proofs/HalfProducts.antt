@@ -52,7 +52,7 @@ product-halves x y =
     ap (λ k. k * y) is_x ∙ ap (λ k. (x % 2 ^ 32 + 2 ^ 32 * (x / 2 ^ 32)) * k) is_y
     ∙ product-parts (x % 2 ^ 32) (x / 2 ^ 32) (y % 2 ^ 32) (y / 2 ^ 32)
 
--- of what is counted in 2^32, 32 bits matter
+-- only the low 32 bits of a multiple of 2^32 matter
 crossed-mod : (s c d p u v w : ℕ)
     → (s + p + 2 ^ 32 * ((c + u) % 2 ^ 32 + (d + v) % 2 ^ 32)) % 2 ^ 64
     ≡ (s + 2 ^ 32 * (c + d) + (p + 2 ^ 32 * (u + v) + 2 ^ 64 * w)) % 2 ^ 64

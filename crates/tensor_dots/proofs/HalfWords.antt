@@ -25,7 +25,7 @@ bits-below xs lanes =
     let few : k < 4 = omega (arith, h, length-bits xs lanes) in
     subst (λ n. n < 2 ^ 64) (sym (at-bits xs k lanes few)) (bits_below (value_in xs k) (lanes.1 k few)))
 
--- a number of so many digits
+-- a number with length xs digits is below p ^ length xs
 pub number-below : (p : ℕ) (xs : List ℕ) → Each1 (λ x. x < p) xs → number_l p xs < p ^ length xs
 number-below p [] h = rw (pow-zero p) (omega arith)
 number-below p (x ∷ xs) h =

@@ -90,7 +90,7 @@ by_fours f x s0 s1 s2 s3 is0 is1 is2 is3 kept1 kept2 kept3 t h =
           ]
     ]
 
--- the same from place 0 on
+-- the lane sums from place 0 on
 pub by_fours_here : (f : ℕ → ℤ) (s0 s1 s2 s3 : List ℤ)
     → ((r : ℕ) → r < 4 → value_in s0 (0 + r) ≡ f r)
     → ((r : ℕ) → r < 4 → value_in s1 (4 + r) ≡ f (4 + r))

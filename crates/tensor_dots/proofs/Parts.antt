@@ -58,7 +58,7 @@ module _ (a n : ℕ) (xs ys : List ℤ) (room : a ≤ length xs) where
         length-drop a xs,
       ))
 
--- a list whose part from a place on, of so many values, was written
+-- a list of which count values, from a place on, were written
 module _ (first place count : ℕ) (xs ys : List ℤ) (above : first ≤ place)
     (within : place + count ≤ first + length xs)
     (same : length ys
@@ -126,7 +126,7 @@ pub places-below : (most place last count : ℕ) → count ≡ min most (last - 
     → place + count ≤ last
 places-below most place last count is below = omega arith
 
--- a place by its line of so many, and where in it
+-- a place as its line of the given width, and a place in that line
 pub line-place : (width place k : ℕ) → place / width * width + (place % width + k) ≡ place + k
 line-place width place k =
     sym (add_assoc (place / width * width) (place % width) k)

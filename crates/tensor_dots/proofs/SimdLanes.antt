@@ -87,7 +87,7 @@ pub widened : (z : ℤ) → FitsSigned w32 z → to_z w64 (of_z w64 (to_z w32 (o
 widened z fits = ap (λ v. to_z w64 (of_z w64 v)) (to_z-of_z w32 z fits)
     ∙ to_z-of_z w64 z (wide z fits)
 
--- the same number in eight lanes
+-- one number in eight lanes
 pub value_in-spread : (v : ℤ) (r : ℕ) → r < 4
     → value_in (v ∷ v ∷ v ∷ v ∷ v ∷ v ∷ v ∷ v ∷ []) (2 * r) ≡ v
 value_in-spread v zero h = refl

@@ -5,11 +5,11 @@ use Rattle.tensor_values.specs.Values.{value_in}
 use Rattle.tensor_dots.specs.Products.{rows_dot}
 use Rattle.tensor_dots.specs.declared.rows.Rows.{Rows}
 
--- how many rows there are
+-- the number of rows
 abbrev pub row_count : Rows → ℕ
 row_count r = length r.starts.items
 
--- how many values each of them has
+-- the number of values of each row
 abbrev pub row_length : Rows → ℕ
 row_length r = length r.offsets.items
 
@@ -19,7 +19,7 @@ row_value r x q =
     value_in (cow_slice_items r.values)
     (slice_index r.starts.items x + slice_index r.offsets.items q)
 
--- the value at a place of the result of two operands
+-- the value at place p of the result of two operands
 abbrev pub dot_at : Rows → Rows → ℕ → ℤ
 dot_at first second p =
     rows_dot (row_count first) (row_length first) (row_value first) (row_value second) p

@@ -1,14 +1,14 @@
--- Operands whose rows lie side by side.
+-- Operands whose rows are slices of a list.
 use Rattle.std.specs.Prelude.{ℕ, ℤ, ◌+◌, length, slice_index}
 use Rattle.std.specs.Cow.{cow_slice_items}
 use Rattle.tensor_values.specs.Values.{value_in}
 use Rattle.tensor_dots.specs.declared.rows.strips.Strips.{Strips}
 
--- how many rows there are
+-- the number of rows
 abbrev pub strip_count : Strips → ℕ
 strip_count s = length s.starts.items
 
--- how many values each of them has
+-- the number of values of each row
 abbrev pub strip_length : Strips → ℕ
 strip_length s = s.width
 

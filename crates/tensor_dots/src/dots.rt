@@ -1,4 +1,6 @@
-//! Contractions row by row: for operands with few rows, which tiles would hold zeros for.
+//! Contractions row by row, for operands with few rows: tiles would be filled up with repeated
+//! rows. `Dots` is what tensor_kernels puts in a `Contraction`; its values are defined in
+//! specs/Dots.
 
 pub(crate) mod row_pair;
 pub(crate) mod row_sums;
@@ -17,7 +19,9 @@ use crate::dots::row_sums::row_sums;
 use crate::rows::Rows;
 use crate::rows::part::RowsPart;
 
-/// Two operands whose rows have equally many values.
+/// Two operands, whose rows have equally many values. The value at place `p` of the result belongs
+/// to row `p % rows` of the first operand and row `p / rows` of the second, where the first has
+/// `rows` rows.
 #[derive(Drop)]
 pub struct Dots<'a> {
     first: Rows<'a>,
@@ -28,7 +32,7 @@ pub struct Dots<'a> {
 impl<'a> Dots<'a> {
     ghost use Rattle.tensor_dots.specs.Dots.{dots_count, dots_value};
 
-    /// The contraction of two operands, row by row.
+    /// Returns the contraction of two operands, to be evaluated row by row.
     pub fn of(first: Rows<'a>, second: Rows<'a>) -> Dots<'a>
         requires { row_length first ≡ row_length second }
         ensures count { dots_count result ≡ row_count second.entry * row_count first.entry }
@@ -37,7 +41,8 @@ impl<'a> Dots<'a> {
         Dots { first, second }
     }
 
-    /// Writes the values from a place of the result on, column by column.
+    /// Writes the values of the places from `first` on, as many as `out` has room for, column by
+    /// column. A column is a row of the second operand with all rows of the first.
     pub fn fill(&self, first: usize, out: &mut [i64])
         requires { first + length out.old ≤ dots_count self.now }
         ensures len { length out.new ≡ length out.old }
@@ -55,7 +60,7 @@ impl<'a> Dots<'a> {
         }
     }
 
-    /// Writes values of column y, from row x on.
+    /// Writes the values of column `y` from row `x` on.
     fn fill_column(&self, x: usize, y: usize, out: &mut [i64])
         requires x { x + length out.old ≤ row_count self.now.first }
         requires y { y < row_count self.now.second }

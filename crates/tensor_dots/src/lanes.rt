@@ -1,4 +1,5 @@
-//! Sums of products, one product after another: of two numbers, and in lanes of vectors of four.
+//! Steps that add a product to a sum: of two numbers here, of vectors of four in the modules. The
+//! row sums of this crate and the tiles of tensor_kernels go by them.
 
 pub mod halves;
 pub mod small;
@@ -6,7 +7,7 @@ pub mod small;
 ghost use Rattle.std.specs.Prelude.{◌≡◌, ◌+ℤ◌, ◌*ℤ◌};
 ghost use Rattle.tensor_shape.specs.Wrap.{wrap};
 
-/// A sum and one product more, modulo 2^64.
+/// Returns `sum + x * y` modulo 2^64.
 #[inline(always)]
 pub fn mul_add(sum: i64, x: i64, y: i64) -> i64
     ensures { result ≡ wrap (sum +ℤ (x *ℤ y)) }

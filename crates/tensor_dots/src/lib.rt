@@ -1,14 +1,11 @@
-//! Sums of products of rows of wrapping 64-bit integers, row by row: operands are lists whose rows are
-//! told by places, with no dims and no expressions. Two are put together once, and then asked for
-//! values from any place on:
+//! Sums of products of rows of wrapping 64-bit integers. A row is given by places of a list, so
+//! there are no dims and no expressions here. Two operands are joined once in `Dots` (rows that
+//! begin anywhere), `StripDots` (rows that are slices) or `WindowDots` (one row that slides along
+//! another list, a convolution), which then write any range of the result. README.md has the
+//! picture.
 //!
-//! ```text
-//!             place = row of the first + rows of the first * row of the second
-//! Dots        rows that begin anywhere, each with the values at the same offsets: those that begin
-//!             side by side are passed together, sixteen or eight at a time, in lanes
-//! StripDots   rows that are runs of a list: value by value
-//! WindowDots  one row that slides over runs of places (a convolution)
-//! ```
+//! tensor_kernels alone depends on this crate. It re-exports some of its types, and its public
+//! contracts cite specs/Products, specs/Rows, specs/Strips and specs/Windows of this crate.
 #![tactic(auto)]
 
 mod dots;

@@ -1,4 +1,5 @@
-//! Lists seen as rows: each has the values at its start, moved by the same offsets.
+//! Rows of a list: each has the values at its start, moved by offsets that all rows share. The
+//! operands of `Dots` and of the tiles of tensor_kernels; their values are defined in specs/Rows.
 
 pub(crate) mod part;
 pub(crate) mod starts;
@@ -14,7 +15,7 @@ ghost use Rattle.tensor_values.specs.Values.{value_in};
 use std::alloc::Global;
 use std::borrow::CowSlice;
 
-/// A list as rows. Value q of a row lies at the row's start, moved by offset q.
+/// A list as rows. Value `q` of a row lies at the row's start, moved by offset `q`.
 #[derive(Drop)]
 pub struct Rows<'a> {
     pub values: CowSlice<'a, i64, Global>,
@@ -28,7 +29,7 @@ pub struct Rows<'a> {
 impl<'a> Rows<'a> {
     ghost use Rattle.tensor_dots.specs.Rows.{row_count, row_length, row_value};
 
-    /// A list as rows that begin at these places, each with its values moved by these offsets.
+    /// Returns a list as rows with the given starts and offsets.
     pub fn new(
         values: CowSlice<'a, i64, Global>,
         starts: Vec<usize>,

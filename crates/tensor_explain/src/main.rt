@@ -1,6 +1,6 @@
-//! Explains the request of standard input on standard output, as `fault_reasons` says: its fault,
-//! where it is and why, with status 1, or its plan, with status 0. It takes no arguments and
-//! ignores any.
+//! The program that explains the request on standard input: its fault, the place and the reason,
+//! with status 1, or its plan, with status 0. What it prints is defined in `fault_reasons`; the
+//! statuses and the lines on standard error are as in `tensor_run`. It ignores arguments.
 #![tactic(auto)]
 
 use fault_reasons::{Explanation, explain, no_memory};
@@ -9,8 +9,8 @@ use std::io::{ErrorKind, Read, Write};
 use std::process::ExitCode;
 use tensor_runner::{MOST_READ, StreamFault, ending_of};
 
-/// What is said of the text of standard input, of which no more is read than tells that it is too
-/// long.
+/// Reads the text on standard input and explains it. It reads at most one byte more than a text may
+/// have.
 fn explained(rt: &HostRuntime) -> Result<Explanation, StreamFault> {
     let alloc = rt.alloc();
     let mut text = Vec::new(alloc);
@@ -21,7 +21,7 @@ fn explained(rt: &HostRuntime) -> Result<Explanation, StreamFault> {
     }
 }
 
-/// Writes what is said, and answers the status.
+/// Writes the explanation to standard output, and returns the exit status.
 fn told(rt: &HostRuntime) -> Result<u8, StreamFault> {
     let told = explained(rt)?;
     match rt.stdout().write_all(told.lines.as_slice()) {

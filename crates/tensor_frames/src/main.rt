@@ -1,35 +1,53 @@
-//! Answers the requests of standard input, a frame each, on standard output, a frame each, until the
-//! input ends, as `frame_server` says. Its options are limits, and whether each
-//! request is noted on standard error.
+//! The program of many requests, one a frame: it answers each frame of standard input by a frame on
+//! standard output, until the input ends. Its options set limits, and whether each request is noted
+//! on standard error. tensor_lines is the same but for lines; change both together.
 #![tactic(auto)]
 
-use frame_server::{serve_frames_logged, serve_frames_within};
-use std::io::BufWriter;
+use frame_server::serve_frames;
+use std::io::{BufWriter, ErrorKind};
 use std::process::ExitCode;
 use std::{env, io};
 use tensor_runner::{
-    Command, Connection, CountedReader, CountedWriter, LineJournal, Service, Uninterrupted,
-    VERSION, command_of, grow_stack,
+    Command, Connection, CountedReader, CountedWriter, LineJournal, ServeOptions, Service,
+    Uninterrupted, VERSION, command_of, grow_stack,
 };
 
-const USAGE: &str = "usage: tensor_frames [--most-workers N] [--most-steps N] [--log] < FRAMES\n";
+const USAGE: &str =
+    "usage: tensor_frames [--most-workers N] [--most-steps N] [--most-bytes N] [--log] < FRAMES\n";
 
-fn main(rt: HostRuntime) -> io::Result<ExitCode> {
-    let words: Vec<String> = env::args(&rt)?.skip(1).collect(rt.alloc())?;
-    let options = match command_of(&words) {
-        Ok(Command::Serve(options)) => options,
+/// Reads the words after the program's name. Returns the options by which to serve, or the status
+/// with which to end once help, the version or a wrong option is printed.
+fn asked(rt: &HostRuntime) -> io::Result<Result<ServeOptions, u8>> {
+    let words: Vec<String> = env::args(rt)?.skip(1).collect(rt.alloc())?;
+    match command_of(&words) {
+        Ok(Command::Serve(options)) => Ok(Ok(options)),
         Ok(Command::Help) => {
             print!(rt; "{USAGE}")?;
-            return Ok(ExitCode::from(0));
+            Ok(Err(0))
         }
         Ok(Command::Version) => {
             println!(rt; "tensor_frames {VERSION}")?;
-            return Ok(ExitCode::from(0));
+            Ok(Err(0))
         }
         Err(refused) => {
             eprint!(rt; "tensor_frames: {refused}\n{USAGE}")?;
-            return Ok(ExitCode::from(2));
+            Ok(Err(2))
         }
+    }
+}
+
+/// Ends a program for which an allocation failed before its first request.
+fn no_memory(rt: &HostRuntime) -> io::Result<ExitCode> {
+    eprint!(rt; "error 15 NoMemory\n")?;
+    Ok(ExitCode::from(1))
+}
+
+fn main(rt: HostRuntime) -> io::Result<ExitCode> {
+    let options = match asked(&rt) {
+        Ok(Ok(options)) => options,
+        Ok(Err(status)) => return Ok(ExitCode::from(status)),
+        Err(error) if error.kind() == ErrorKind::OutOfMemory => return no_memory(&rt),
+        Err(error) => return Err(error),
     };
     let mut client = Connection {
         source: CountedReader::new(Uninterrupted { stream: rt.stdin() }),
@@ -38,14 +56,19 @@ fn main(rt: HostRuntime) -> io::Result<ExitCode> {
         }),
     };
     grow_stack(&rt, &mut client.source.reader);
-    let limits = options.limits;
-    let ending = if options.log {
-        let writer = BufWriter::new(rt.alloc(), rt.stderr())?;
-        let journal = LineJournal::new(writer, rt.clone()?);
-        serve_frames_logged(&rt, rt.alloc(), Service { limits, journal }, &mut client)
+    let journal = if options.log {
+        let Ok(writer) = BufWriter::new(rt.alloc(), rt.stderr()) else {
+            return no_memory(&rt);
+        };
+        let Ok(clock) = rt.clone() else {
+            return no_memory(&rt);
+        };
+        Some(LineJournal::new(writer, clock))
     } else {
-        serve_frames_within(&rt, rt.alloc(), limits, &mut client)
+        None
     };
+    let limits = options.limits;
+    let ending = serve_frames(&rt, rt.alloc(), Service { limits, journal }, &mut client);
     if let Some(complaint) = ending.complaint {
         eprint!(rt; "{complaint}")?;
     }

@@ -20,7 +20,7 @@ use Rattle.tensor_kernels.proofs.PanelPlaces.{are_cells-row}
 use Rattle.tensor_dots.proofs.Parts.{get_or-part}
 use Rattle.tensor_dots.proofs.ProductSums.{sum_to-ext, sum_to-append}
 
--- so many terms more, where the sum so far was taken modulo 2^64
+-- m terms more, where the sum so far was taken modulo 2^64
 pub wrap-chunk : (f : ℕ → ℤ) (a m b : ℕ) (v so_far more : ℤ) → a + m ≡ b
     → so_far ≡ wrap (sum_to f a) → more ≡ sum_to (λ q. f (a + q)) m → v ≡ wrap (so_far +ℤ more)
     → v ≡ wrap (sum_to f b)

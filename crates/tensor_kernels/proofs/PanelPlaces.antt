@@ -25,7 +25,7 @@ panel_place-row h n p j q inside = rw (div-mul-add p h j inside, mod-mul-add p h
 place-within : (h n q j : ℕ) → q < n → j < h → h * q + j < n * h
 place-within h n q j few inside = omega (arith, mul-add-lt q h j n few inside)
 
--- and that of one of so many panels within these
+-- a value lies within the given number of panels
 pub panel_place-inside : (h n x q panels : ℕ) → 0 < h → x < panels * h → q < n
     → panel_place h n x q < panels * (n * h)
 panel_place-inside h n x q panels some below few =
@@ -136,7 +136,7 @@ four-within h f some fours =
     let rest = mod_below (4 * f) h some in
     omega (arith, high, whole, all, rest)
 
--- and so have so many panels
+-- panels whose height is a multiple of four have a multiple of four rows
 pub fours-whole : (panels h : ℕ) → h % 4 ≡ 0 → 4 * (panels * h / 4) ≡ panels * h
 fours-whole panels h fours =
     let k = h / 4 in

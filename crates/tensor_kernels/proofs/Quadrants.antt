@@ -32,7 +32,7 @@ pub dot-ext : (f f' g g' : ℕ → ℤ) (n : ℕ) → ((q : ℕ) → q < n → f
 dot-ext f f' g g' n left right =
     sum_to-ext _ _ n (λ q below. same-factors (left q below) (right q below))
 
--- the cells of the second half of so many panels lie behind those of the first
+-- the cells of the second half of the panels lie behind the cells of the first half
 place-second : (h panels x q : ℕ) → 0 < h
     → panel_place h 128 (panels * h + x) q ≡ panels * (128 * h) + panel_place h 128 x q
 place-second h panels x q some =

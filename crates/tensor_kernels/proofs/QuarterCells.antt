@@ -30,7 +30,7 @@ are_inside-padded values rows starts offsets some are inside x q row few =
     let there : min x (length rows - 1) < length rows = omega arith in
     rw (are x row) (inside (min x (length rows - 1)) q there few)
 
--- so many whole panels
+-- a whole number of panels
 pub div_ceil-whole : (panels h : ℕ) → 0 < h → div_ceil (panels * h) h ≡ panels
 div_ceil-whole panels h some =
     let is : panels * h ≡ panels * h + 0 = omega arith in

@@ -18,7 +18,7 @@ pub no-earlier-column : (rows from k : ℕ) → 0 < rows → (from + k) / rows <
 no-earlier-column rows from k some earlier =
     absurd (omega (arith, column-order rows from (from + k) some (omega arith), earlier))
 
--- of the parts of a size that cover a length each that has its start within is one
+-- a part whose start lies within a length is one of the parts that cover the length
 pub part-below : (size len n : ℕ) → 0 < size → n * size < len → n < div_ceil len size
 part-below size len n some start =
     elim (cases_lt n (div_ceil len size)) [
@@ -27,18 +27,18 @@ part-below size len n some start =
           absurd (omega (arith, (div_ceil_times len size some).0, mul-le-mul_right size more))
     ]
 
--- and what lies within is in one of them
+-- what lies within a length is in one of the parts that cover it
 pub part-of : (size len k : ℕ) → 0 < size → k < len → k / size < div_ceil len size
 part-of size len k some below =
     div_below k size (div_ceil len size) some (omega (arith, (div_ceil_times len size some).0))
 
--- and a place before the end of so many is in a column before the last of them
+-- a place before the end of len places is in a column before the last of them
 pub column-of : (rows from len last k : ℕ) → last ≡ div_ceil (from + len) rows → 0 < rows → k < len
     → (from + k) / rows < last
 column-of rows from len last k is some below =
     rw is (part-of rows (from + len) (from + k) some (omega (arith, below)))
 
--- columns up to a place before the end of so many are no more
+-- columns up to a place before the end of len places are no more
 pub columns-inside : (rows columns column len n : ℕ) → n ≡ div_ceil len rows → 0 < rows
     → column * rows + len ≤ columns * rows → column + n ≤ columns
 columns-inside rows columns column len n is some within =

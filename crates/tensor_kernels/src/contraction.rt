@@ -1,4 +1,5 @@
-//! The values of a contraction of two lists of rows, by ranges of their places.
+//! `Contraction`: a contraction or convolution that returns its values by ranges of places. Here
+//! the way is chosen that suits the number of rows. Its values are defined in specs/Contracting.
 
 ghost use Rattle.std.specs.Prelude.{◌≡◌, ◌<◌, ◌≤◌, ◌+◌, ◌*◌, ◌-◌, ℕ, length, map, IfOk, OnOk};
 ghost use Rattle.std.specs.List.{range_with_len};
@@ -12,24 +13,24 @@ use crate::tiling::Tiled;
 use std::alloc::{AllocError, Allocator, Global};
 use tensor_dots::{Dots, Rows, StripDots, Strips, WindowDots, Windows};
 
-/// From so many rows of the second operand on tiles are used, whose packing takes longer than so few
-/// sums.
+/// The fewest rows of the second operand for which tiles are used. With fewer rows, packing takes
+/// longer than the sums do. tensor_ops and tensor_reduce go by it too.
 pub const TILED_ROWS: usize = 4;
 
-/// A contraction made ready to be evaluated by ranges of places. It is made once; all who work on
-/// ranges of it share it.
+/// A contraction made ready to be evaluated by ranges of places. All threads that evaluate ranges
+/// share it.
 pub enum Contraction<'a> {
-    /// By tiles of a column of sixteen rows, or of four.
+    /// By tiles: one column and sixteen rows, or four.
     InTiles(Tiled<'a>),
-    /// Row by row, where an operand has few rows.
+    /// Row by row, for operands of which one has few rows.
     InDots(Dots<'a>),
-    /// Value by value, where an operand has few rows and those of both lie side by side.
+    /// Value by value, for operands whose rows are slices and of which one has few rows.
     InStrips(StripDots<'a>),
     /// A convolution, run by run.
     InRuns(WindowDots<'a>),
 }
 
-// Said once, where a derived drop is unfolded wherever one may be dropped.
+// Written out, as a derived drop would be unfolded in each proof that drops a contraction.
 impl Drop for Contraction<'_> {
     fn drop(self) {
         match self {
@@ -44,11 +45,12 @@ impl Drop for Contraction<'_> {
 impl<'a> Contraction<'a> {
     ghost use Rattle.tensor_kernels.specs.Contracting.{contraction_count, contraction_value};
 
-    /// The contraction of two operands as rows. Where the first has more than one row and the second
-    /// more than 128, the first is packed: a cell of 8 bytes for each value, up to a multiple of
-    /// sixteen or four rows, and where not all values of both fit 32 bits a number for each of these
-    /// rows and each chunk of 128 products. Then it isn't where the first has 256 rows, the second
-    /// 1,024, and each 256 values or more.
+    /// Returns the contraction of two operands, given as rows. If the first has more than one row
+    /// and the second more than 128, the first is packed here. This takes a cell of 8 bytes for
+    /// each value, with the rows rounded up to a multiple of sixteen or four. If not all values of
+    /// both fit 32 bits, it also takes a number for each of these rows and each chunk of 128
+    /// products. In that case nothing is packed here if the first has 256 rows or more, the second
+    /// 1,024 or more, and each row 256 values or more.
     pub fn of_rows(
         alloc: Global,
         first: Rows<'a>,
@@ -69,7 +71,7 @@ impl<'a> Contraction<'a> {
         Ok(Contraction::InTiles(Tiled::of(alloc, first, second)?))
     }
 
-    /// The contraction of two operands whose rows lie side by side, value by value.
+    /// Returns the contraction of two operands whose rows are slices.
     pub fn of_strips(first: Strips<'a>, second: Strips<'a>) -> Contraction<'a>
         requires { strip_length first ≡ strip_length second }
         ensures count { contraction_count result
@@ -81,7 +83,7 @@ impl<'a> Contraction<'a> {
         Contraction::InStrips(StripDots::of(first, second))
     }
 
-    /// The convolution of an operand as runs with a kernel of one row.
+    /// Returns the convolution of an operand, given as runs, with a kernel of one row.
     pub fn of_runs(runs: Windows<'a>, kernel: Rows<'a>) -> Contraction<'a>
         requires one { row_count kernel ≡ 1 }
         requires lengths { window_length runs ≡ row_length kernel }
@@ -93,14 +95,15 @@ impl<'a> Contraction<'a> {
         Contraction::InRuns(WindowDots::of(runs, kernel))
     }
 
-    /// The values at the places from the first to before the last of the result, in order. Where
-    /// the first operand has more than one row and the second four or more, both are packed here,
-    /// chunk by chunk of 128 products, but for a first one that is packed already: up to 32 rows of
-    /// the second, or 128 beside all of the first. That takes a cell of 8 bytes for each product of
-    /// these rows, and where numbers don't fit 32 bits one more for each of them. Large operands are
-    /// packed in two chunks at once, up to 512 rows of the second, in four chunks of which they are held,
-    /// beside 32 of the first. That takes up to nine cells for each product of a chunk of these rows,
-    /// and up to 28,672 for the sums.
+    /// Returns the values at the places `[first, last)` of the result, in order.
+    ///
+    /// If the contraction is in tiles, both operands are packed here, chunk by chunk of 128
+    /// products, unless the first is packed already. A band is up to 32 rows of the second operand,
+    /// or up to 128 together with all rows of the first. It takes a cell of 8 bytes for each of
+    /// these rows and each product of a chunk, and if not all values fit 32 bits a number for each
+    /// row. Large operands are taken by two chunks at once: up to 512 rows of the second, held for
+    /// four chunks, and 32 rows of the first. This takes up to nine cells for each of these rows
+    /// and each product of a chunk, and up to 28,672 for the sums.
     pub fn values<A: Allocator>(
         &self,
         alloc: A,
@@ -117,9 +120,8 @@ impl<'a> Contraction<'a> {
         Ok(values)
     }
 
-    /// Writes the values from a place of the result on, as many as there is room for, in order,
-    /// whatever stands there. Packs what [`Contraction::values`] does; want of memory leaves anything
-    /// in the list.
+    /// Writes the values of the places from `first` on, in order, as many as `out` has room for.
+    /// Packs what [`Contraction::values`] packs. After an allocation failure `out` has any values.
     pub fn fill(&self, first: usize, out: &mut [i64]) -> Result<(), AllocError>
         requires { first + length out.old ≤ contraction_count self.now }
         ensures len { length out.new ≡ length out.old }

@@ -1,20 +1,16 @@
-//! Contractions and convolutions of lists of wrapping 64-bit integers whose rows are told by places,
-//! with no dims and no expressions. One is made ready once, and then asked for ranges of its values:
+//! Contractions and convolutions of lists of wrapping 64-bit integers. The rows of a list are given
+//! by places, so there are no dims and no expressions here. A `Contraction` is made ready once, and
+//! then asked for ranges of its values. README.md has the picture.
 //!
-//! ```text
-//! rows, strips, or runs under a kernel (tensor_dots)
-//!  │ Contraction     few rows: row by row (tensor_dots); many rows: tiles
-//!  │ values, fill    by who wants these places: bands of columns packed in panels, and tile by tile
-//! values of a range
-//! ```
+//! No public clause names a chunk, a tile or a width, so these may change without a change to other
+//! crates. None of them changes a value: sums may be taken modulo 2^64 at each step and chunk by
+//! chunk (`wrap-chunk` of proofs/ChunkSums), and seven products give the sums of eight
+//! (proofs/Strassen proves it for any numbers; specs/private/Strassen defines the products).
 //!
-//! No clause names a chunk, a tile or a width, and none of these changes a value: sums may be taken modulo
-//! 2^64 at each step, chunk by chunk (`wrap-chunk` of proofs/ChunkSums), and seven products do for eight
-//! (proofs/Strassen, for any numbers; specs/private/Strassen says which).
-//!
-//! Whether all values fit 32 bits is asked of whole operands. Columns that are cut between two ranges are
-//! packed for both, and so are all rows where they aren't packed beforehand. So who cuts a contraction
-//! into ranges goes by the widths that are public here.
+//! Two things cost a caller time. Whether all values fit 32 bits is decided for whole operands.
+//! Columns that are cut between two ranges are packed for both ranges, and so are all rows of the
+//! first operand if they aren't packed beforehand. So tensor_reduce cuts a contraction into ranges
+//! by the widths that are public here.
 #![tactic(auto)]
 
 mod contraction;

@@ -1,5 +1,5 @@
 //! Rows of an operand packed in panels: a panel has the first values of its rows, then their second
-//! ones, and so on.
+//! values, and so on. The tiles read these; specs/Panels defines where each value lies.
 
 pub(crate) mod chunks;
 pub(crate) mod height;
@@ -15,8 +15,8 @@ use crate::panels::pair_sums::pair_sums;
 use std::alloc::{AllocError, Global};
 use tensor_dots::RowsPart;
 
-/// Rows in panels of one height, and beside them what products two by two take off: of each row the
-/// sum of the products of its own pairs, or none where numbers fit 32 bits.
+/// Rows in panels of one height. `sums` has for each row the sum of the products of its own pairs,
+/// which `tiling::pairs` takes off. It is empty if all numbers fit 32 bits.
 #[derive(Drop)]
 pub(crate) struct Panels {
     pub(crate) cells: Vec<i64>,
@@ -26,8 +26,8 @@ pub(crate) struct Panels {
 impl Panels {
     ghost use Rattle.tensor_kernels.specs.private.Cells.{HoldsRows, AreReady};
 
-    /// Some rows of an operand, so many a panel. Takes a cell for each value, up to whole panels,
-    /// and a number for each row where numbers don't fit 32 bits.
+    /// Packs some rows of an operand in panels of `height` rows. Takes a cell for each value of
+    /// whole panels, and if numbers don't fit 32 bits (`small` is false) a number for each row.
     pub(crate) fn of(
         alloc: Global,
         small: bool,

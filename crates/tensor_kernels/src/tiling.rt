@@ -1,5 +1,6 @@
-//! Ranges of a contraction's values, tile by tile. A tile holds a panel's rows, sixteen or four, of
-//! one column of the result, whose places lie side by side; a band has up to 32, 128 or 512 columns.
+//! Ranges of a contraction's values, tile by tile. A tile is the rows of a panel, sixteen or four,
+//! in one column of the result, where they lie side by side. A band is up to 32, 128 or 512
+//! columns. The value at each place is defined in specs/Tiling, whatever the widths are.
 
 pub(crate) mod packed_chunk;
 pub(crate) mod pairs;
@@ -25,39 +26,45 @@ use std::alloc::{AllocError, Global};
 use tensor_dots::lanes::small::are_small;
 use tensor_dots::{Rows, RowsPart};
 
-/// How many columns are packed together: so many that a panel of the first operand's rows is used
-/// again and again while it is near, and so few that they stay beside it.
+/// The number of columns that are packed together if the first operand is packed beforehand. They
+/// are enough to use a panel of the first operand's rows often while it is in the cache, and few
+/// enough to stay in the cache beside it. tensor_reduce cuts ranges by it.
 pub const BAND_COLUMNS: usize = 32;
 
-/// How many where the first operand is packed for each band anew. A result of at most so many
-/// columns is such a one: to store the panels would take longer than to make them again.
+/// The number of columns that are packed together if the first operand is packed again for each
+/// band. A result of at most this many columns is taken so: storing the panels would take longer
+/// than packing them again. tensor_reduce cuts ranges by it.
 pub const WIDE_BAND_COLUMNS: usize = 128;
 
-/// How many where chunks are taken two by two: so many that to pack the factors of both operands
-/// costs little beside their products.
+/// The number of columns that are packed together if chunks are taken two by two. With this many,
+/// packing the factors of both operands takes little time beside their products.
 const PAIRED_BAND_COLUMNS: usize = 512;
 
-/// How the first operand is packed: how high its panels are, and whether all numbers fit 32 bits.
+/// How the operands are packed: the height of the first operand's panels, and whether all numbers
+/// of both fit 32 bits.
 #[derive(Clone, Copy, Drop)]
 pub(crate) struct Packing {
     height: Height,
     small: bool,
 }
 
-/// Two operands whose rows have equally many values, taken chunk by chunk of the products, or two
-/// chunks at once. Those of the first are packed beforehand, but where there are few columns or chunks
-/// are taken two by two; all else is packed by who writes values, band by band.
+/// Two operands whose rows have equally many values. Their products are taken chunk by chunk, or
+/// two chunks at once. The first operand's panels are packed beforehand, unless there are few
+/// columns or chunks are taken two by two. All else is packed band by band while values are
+/// written.
 #[derive(Drop)]
 pub struct Tiled<'a> {
     alloc: Global,
     first: Rows<'a>,
     second: Rows<'a>,
     packing: Packing,
-    /// How many chunks there are, and the first operand's panels of those packed beforehand.
+    /// The number of chunks.
     chunks: usize,
+    /// The first operand's panels, one for each chunk that is packed beforehand. Empty if none is.
     packed: Vec<Panels>,
-    /// How often two chunks are taken at once, from the first on.
+    /// The number of times that two chunks are taken at once, from the first chunk on.
     pairs: usize,
+    /// The number of rows of the first operand, which is the length of a column of the result.
     rows: usize,
     ghost lengths: { row_length first ≡ row_length second },
     ghost same: { rows ≡ row_count first },
@@ -75,7 +82,7 @@ impl<'a> Tiled<'a> {
     ghost use Rattle.tensor_kernels.specs.Chunks.{before};
     ghost use Rattle.tensor_kernels.specs.Tiling.{tiled_count, tiled_value, chunk_total, pairs_total};
 
-    /// The contraction of two operands, of which the first is packed here where that serves.
+    /// Returns the contraction of two operands, with the first packed if that saves time.
     pub(crate) fn of(
         alloc: Global,
         first: Rows<'a>,
@@ -116,8 +123,8 @@ impl<'a> Tiled<'a> {
         })
     }
 
-    /// Writes the values from a place of the result on. Takes the room for a band of columns, and
-    /// for a chunk of the first operand where it isn't packed.
+    /// Writes the values of the places from `first` on. Takes room for a band of columns, and for a
+    /// chunk of the first operand if it isn't packed.
     pub(crate) fn fill(&self, first: usize, out: &mut [i64]) -> Result<(), AllocError>
         requires { first + length out.old ≤ tiled_count self.now }
         ensures len { length out.new ≡ length out.old }
@@ -135,7 +142,7 @@ impl<'a> Tiled<'a> {
         Ok(())
     }
 
-    /// How many columns a band has.
+    /// Returns the number of columns of a band.
     fn band(&self) -> usize
         ensures some { 0 < result }
         ensures few { result ≤ 512 }
@@ -149,7 +156,7 @@ impl<'a> Tiled<'a> {
         }
     }
 
-    /// Writes values of one band from a place of the result on.
+    /// Writes values of one band, from `place` of the result on.
     fn fill_band(&self, place: usize, out: &mut [i64]) -> Result<(), AllocError>
         requires some { 0 < length out.old }
         requires inside { place % self.now.rows + length out.old ≤ 512 * self.now.rows }
@@ -181,7 +188,8 @@ impl<'a> Tiled<'a> {
         Ok(())
     }
 
-    /// Writes the sums of a chunk of the products, whose panels are packed or are to be.
+    /// Adds the sums of chunk `c`, packing the first operand's panels if they aren't packed
+    /// already. Chunk 0 overwrites what stands in `out`.
     fn add_chunk(&self, c: usize, place: usize, out: &mut [i64]) -> Result<(), AllocError>
         requires chunk { c < self.now.chunks }
         requires some { 0 < length out.old }
@@ -198,7 +206,8 @@ impl<'a> Tiled<'a> {
         self.put_chunk(c, &panels, place, out)
     }
 
-    /// The same, given the first operand's panels.
+    /// Adds the sums of chunk `c`, given the first operand's panels. Chunk 0 overwrites what stands
+    /// in `out`.
     fn put_chunk(
         &self,
         c: usize,
@@ -238,7 +247,7 @@ impl<'a> Tiled<'a> {
     }
 }
 
-/// The first operand's panels of so many first chunks of its offsets.
+/// Returns the first operand's panels of the first `count` chunks.
 fn panels_of(
     alloc: Global,
     rows: &Rows<'_>,
@@ -257,7 +266,7 @@ fn panels_of(
     Ok(chunks)
 }
 
-/// The first operand's panels of chunk c of its offsets.
+/// Returns the first operand's panels of chunk `c`.
 fn panels_at(
     alloc: Global,
     rows: &Rows<'_>,

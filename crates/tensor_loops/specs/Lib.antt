@@ -2,4 +2,5 @@ pub mod Chain
 pub mod Folds
 pub mod Loops
 pub mod Putting
+pub mod private
 pub mod Tiles

@@ -1,4 +1,6 @@
-//! Values combined one after the other into the values of a row.
+//! Folds: many values combined into each value of a row. A new reducer needs an arm in
+//! `combined_with` and `add_combined`; the meaning is in `specs/Folds`, which reductions in
+//! tensor_ops use.
 
 ghost use Rattle.std.specs.Prelude.{◌≡◌, ◌<◌, ◌≤◌, ◌+◌, ◌*◌, ◌^◌, ◌++◌, ℕ, length, map};
 ghost use Rattle.std.specs.Prelude.{slice_index, vec_len, vec_capacity};
@@ -10,11 +12,11 @@ ghost use Rattle.tensor_values.specs.Combining.{combine};
 use std::alloc::Allocator;
 use tensor_values::Reducer;
 
-/// The shortest row that is combined as a row. Shorter ones are combined value by value.
+/// The shortest row that is combined row by row. Shorter rows are combined value by value.
 const SHORTEST_COMBINED_ROW: usize = 8;
 
-/// Combines with each value of a row those at its place in runs of rows. A run has so many rows, a
-/// step apart, and begins at an offset from where the row starts.
+/// Combines into each value of a row the values at its index in other rows of `values`. For each
+/// offset there are `run` such rows, `step` apart; the first begins at `start` plus the offset.
 #[inline(always)]
 pub fn combine_runs(
     reducer: Reducer,
@@ -39,7 +41,8 @@ pub fn combine_runs(
     }
 }
 
-/// Combines with each value of a row those at its place in a run of rows, a step apart.
+/// Combines into each value of a row the values at its index in `run` rows of `values`. The rows
+/// lie `step` apart, and the first begins at `start`.
 #[inline(always)]
 fn combine_run(
     reducer: Reducer,
@@ -63,7 +66,7 @@ fn combine_run(
     }
 }
 
-/// Combines a run of rows value by value.
+/// Combines `run` rows into a row, one value of the row after the other.
 #[inline(always)]
 fn combine_by_value(
     reducer: Reducer,
@@ -86,7 +89,7 @@ fn combine_by_value(
     }
 }
 
-/// Combines a run of rows row by row.
+/// Combines `run` rows into a row, one of these rows after the other.
 #[inline(always)]
 fn combine_by_row(
     reducer: Reducer,
@@ -110,7 +113,7 @@ fn combine_by_row(
     }
 }
 
-/// Combines each value with that at its place in another row.
+/// Combines each value of `row` with the value at its index in `others`.
 #[inline(always)]
 fn fold_row(reducer: Reducer, row: &mut [i64], others: &[i64])
     requires { length row.old ≡ length others.now }
@@ -123,7 +126,7 @@ fn fold_row(reducer: Reducer, row: &mut [i64], others: &[i64])
     }
 }
 
-/// A value, and all others combined with it, one after the other.
+/// Returns `value` combined with all `others`, one after the other.
 pub fn combined_with(reducer: Reducer, value: i64, others: &[i64]) -> i64
     ensures { result ≡ folded reducer value (value_in others.now) (length others.now) }
 {
@@ -137,7 +140,7 @@ pub fn combined_with(reducer: Reducer, value: i64, others: &[i64]) -> i64
     }
 }
 
-/// The same by one reducer, which is known where this is compiled.
+/// Returns `value` combined with all `others`. The reducer is a constant at compile time.
 #[inline(always)]
 fn all_with(reducer: Reducer, value: i64, others: &[i64]) -> i64
     ensures { result ≡ folded reducer value (value_in others.now) (length others.now) }
@@ -149,8 +152,9 @@ fn all_with(reducer: Reducer, value: i64, others: &[i64]) -> i64
     all
 }
 
-/// Appends what each of so many runs gives, one after the other, where its values are combined from
-/// the unit.
+/// Appends the combination of each of `count` runs of values, beginning with the unit. The runs
+/// have `run` values each and lie one after the other in `values`. Allocates nothing: there must be
+/// room.
 pub fn add_combined<A: Allocator>(
     reducer: Reducer,
     values: &[i64],
@@ -175,7 +179,8 @@ pub fn add_combined<A: Allocator>(
     }
 }
 
-/// The same by one reducer, which is known where this is compiled.
+/// Appends the combination of each of `count` runs of values. The reducer is a constant at compile
+/// time.
 #[inline(always)]
 fn add_each<A: Allocator>(
     reducer: Reducer,
@@ -198,7 +203,7 @@ fn add_each<A: Allocator>(
     }
 }
 
-/// A value, and so many that lie a step apart combined with it.
+/// Returns `value` combined with `run` values that lie `step` apart, from place `first` on.
 #[inline(always)]
 fn folded(
     reducer: Reducer,
@@ -212,7 +217,7 @@ fn folded(
     requires inside { (t : ℕ) → t < run → first + t * step < length values.now }
     ensures { result ≡ folded reducer value (λ t. value_in values.now (first + t * step)) run }
 {
-    // Values side by side are read as vectors where the loop knows that they are.
+    // A separate loop for step 1 lets the compiler use vector instructions.
     if step == 1 && run > 0 {
         return all_with(reducer, value, &values[first..first + run]);
     }

@@ -1,4 +1,5 @@
-//! Values of a list at places, and along views.
+//! Gathers: the values of a list at places, and along a view. A change of what is read touches
+//! `specs/Reading` of tensor_views; evaluation by ranges in tensor_ops is built on these calls.
 
 pub(crate) mod along;
 pub(crate) mod interleaved;
@@ -17,7 +18,7 @@ use std::alloc::{AllocError, Global};
 use std::borrow::CowSlice;
 use tensor_views::{Axis, Places, Reading, looked_up, rows_of, steps_to};
 
-/// The values of a list at places. Those of a run are lent.
+/// Returns the values of a list at places. A run is borrowed, and nothing is allocated for it.
 pub fn picked<'a>(
     alloc: Global,
     values: &'a [i64],
@@ -33,7 +34,7 @@ pub fn picked<'a>(
     }
 }
 
-/// The values of a list at listed places.
+/// Returns the values of a list at listed places.
 fn gathered(alloc: Global, values: &[i64], places: &[u32]) -> Result<Vec<i64>, AllocError>
     requires { (k : ℕ) → k < length places.now → slice_index places.now k < length values.now }
     ensures { IfOk result (λ v. v.items ≡ map (value_in values.now) places.now) }
@@ -45,7 +46,7 @@ fn gathered(alloc: Global, values: &[i64], places: &[u32]) -> Result<Vec<i64>, A
     Ok(gathered)
 }
 
-/// The values that are read at places.
+/// Returns the values that a reading has at places.
 pub fn picked_along(
     alloc: Global,
     reading: Reading<'_>,
@@ -66,7 +67,7 @@ pub fn picked_along(
     }
 }
 
-/// The values that are read at a run of places, row by row.
+/// Returns the values that a reading has at the places in `[first, last)`, row by row.
 fn gathered_along(
     alloc: Global,
     reading: Reading<'_>,
@@ -90,8 +91,8 @@ fn gathered_along(
     Ok(gathered)
 }
 
-/// Appends the values of a run: for each row's start those of a row along the axis, the first row
-/// and the last cut to the run.
+/// Appends the values at the places in `[first, last)`, row by row. The first and the last row are
+/// cut to the run.
 fn gather_rows(
     gathered: &mut Vec<i64>,
     values: &[i64],
@@ -122,7 +123,8 @@ fn gather_rows(
     Ok(())
 }
 
-/// Appends a row's values from index to index; by one copy where they lie side by side.
+/// Appends the values of one row for the indices in `[from, to)`, by one copy if they lie side by
+/// side.
 fn gather_row(
     gathered: &mut Vec<i64>,
     values: &[i64],
@@ -154,8 +156,8 @@ fn gather_row(
     Ok(())
 }
 
-/// Appends a row's values from index to index, one by one. The step is a constant where it can be,
-/// so that each call becomes a loop of its own.
+/// Appends the values of one row for the indices in `[from, to)`, one by one. Callers pass a
+/// constant step where they can, so that the compiler makes a loop for it.
 #[inline(always)]
 fn gather_each(
     gathered: &mut Vec<i64>,

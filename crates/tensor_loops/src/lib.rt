@@ -1,12 +1,6 @@
 //! Loops over lists of wrapping 64-bit integers: values gathered along views and in turns, combined
-//! element by element, and folded, with no dims and no expressions.
-//!
-//! ```text
-//! a list, a view, places   ──gather──>   the values there: a copy, rows, tiles, or one by one
-//! values, another list     ──loops───>   an operation's of both, where it stands; or several
-//! a row, runs of rows      ──folds───>   the row, with all of them combined
-//! two lists in turns       ─interleave>   one list
-//! ```
+//! element by element, and folded. README.md has the picture. There are no dims and no expressions
+//! here. tensor_ops calls these loops; how they split or order their work changes no value.
 #![tactic(auto)]
 
 mod folds;

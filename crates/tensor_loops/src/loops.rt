@@ -1,8 +1,11 @@
-//! One loop for each arity. The operation is a constant at each call, so that each call becomes a
-//! loop of its own, with no test in it.
+//! Loops over values, one for each number of operands. The operation is a constant in each arm, so
+//! that the compiler makes a loop for each operation, without a test in it. A new operation needs
+//! an arm in each `match`; its meaning is in `specs/Scalars` of tensor_values.
 
 pub(crate) mod chain;
 pub(crate) mod combining;
+mod dividing;
+mod inverse;
 pub(crate) mod putting;
 
 ghost use Rattle.std.specs.Prelude.{◌≡◌, ◌<◌, ◌≤◌, ◌+◌, ℕ, pos, length, slice_index_or};
@@ -12,19 +15,24 @@ ghost use Rattle.tensor_values.specs.Scalars.{applied, is_true};
 ghost use Rattle.tensor_views.specs.View.{IsRowIn};
 
 use crate::loops::chain::Link;
+use crate::loops::dividing::{Division, divides_by};
+use crate::loops::inverse::Inverse;
 use tensor_values::{BinaryScalar, UnaryScalar, applied, combined, is_true};
 use tensor_views::{Row, steps_to};
 
-/// The order in which the operands of a select are worked out: this one, and then the others as
-/// they stand, condition, yes, no.
+/// The order in which the operands of a select are evaluated. The named operand comes first; the
+/// other two follow in the order condition, yes, no.
 #[derive(Clone, Copy, Drop)]
 pub enum SelectOrder {
+    /// The condition, the value for yes, the value for no.
     ConditionFirst,
+    /// The value for yes, the condition, the value for no.
     YesFirst,
+    /// The value for no, the condition, the value for yes.
     NoFirst,
 }
 
-/// Each value becomes the operation's.
+/// Replaces each value by the result of the operation on it.
 pub fn apply(operation: UnaryScalar, values: &mut [i64])
     ensures len { length values.new ≡ length values.old }
     ensures each { (k : ℕ) → k < length values.old → slice_index_or values.new k (pos 0)
@@ -39,8 +47,8 @@ pub fn apply(operation: UnaryScalar, values: &mut [i64])
     }
 }
 
-/// Each value becomes the operation's of it and the other list's at its place, of which the second
-/// comes first where they are swapped.
+/// Replaces each value by the result of the operation on it and the other list's value at its
+/// index. If the link is swapped, the other value is the first operand.
 pub fn combine(link: Link, values: &mut [i64], others: &[i64])
     requires { length values.old ≡ length others.now }
     ensures len { length values.new ≡ length others.now }
@@ -51,8 +59,8 @@ pub fn combine(link: Link, values: &mut [i64], others: &[i64])
     combine_row(link, values, 0, others, Row::whole(others.len()));
 }
 
-/// The values from a place on become the operation's of them and a list's along a row, of which the
-/// second comes first where they are swapped.
+/// Replaces the values from index `at` on by the result of the operation on them and the list's
+/// values along a row. If the link is swapped, the list's value is the first operand.
 pub fn combine_row(link: Link, values: &mut [i64], at: usize, list: &[i64], row: Row)
     requires row { IsRowIn row (length list.now) }
     requires room { at + row.count ≤ length values.old }
@@ -147,7 +155,8 @@ pub fn combine_row(link: Link, values: &mut [i64], at: usize, list: &[i64], row:
     }
 }
 
-/// Each value becomes select's of it and the values at its place of the two lists after it.
+/// Replaces each value by the result of a select. The order says which operands `values`, `second`
+/// and `third` are.
 pub fn select(order: SelectOrder, values: &mut [i64], second: &[i64], third: &[i64])
     requires second { length values.old ≡ length second.now }
     requires third { length values.old ≡ length third.now }
@@ -165,6 +174,7 @@ pub fn select(order: SelectOrder, values: &mut [i64], second: &[i64], third: &[i
     }
 }
 
+/// Replaces each value by the result of the operation, which is a constant at compile time.
 #[inline(always)]
 fn apply_each(operation: UnaryScalar, values: &mut [i64])
     ensures len { length values.new ≡ length values.old }
@@ -176,7 +186,8 @@ fn apply_each(operation: UnaryScalar, values: &mut [i64])
     }
 }
 
-/// The step is a constant, too, where the places of the row lie side by side or are one.
+/// Combines values with a list's values along a row. The step of the row is a constant too if it is
+/// 1 or 0.
 #[inline(always)]
 fn combine_by_steps(
     operation: BinaryScalar,
@@ -195,11 +206,16 @@ fn combine_by_steps(
     match (row.axis.step, row.axis.reversed) {
         (1, false) => combine_each(link, values, at, list, row.known(1, false)),
         (1, true) => combine_each(link, values, at, list, row.known(1, true)),
+        (0, false) if 0 < row.count && divides_by(link, list[row.start]) => {
+            let inverse = Inverse::of(list[row.start]);
+            Division { operation, inverse }.divide_each(values, at, row.count);
+        }
         (0, false) => combine_each(link, values, at, list, row.known(0, false)),
         _ => combine_each(link, values, at, list, row),
     }
 }
 
+/// Combines values with a list's values along a row, one by one.
 #[inline(always)]
 fn combine_each(link: Link, values: &mut [i64], at: usize, list: &[i64], row: Row)
     requires row { IsRowIn row (length list.now) }
@@ -213,6 +229,7 @@ fn combine_each(link: Link, values: &mut [i64], at: usize, list: &[i64], row: Ro
     }
 }
 
+/// Replaces each value by the result of a select, whose order is a constant at compile time.
 #[inline(always)]
 fn select_each(order: SelectOrder, values: &mut [i64], second: &[i64], third: &[i64])
     requires second { length values.old ≡ length second.now }
@@ -227,7 +244,7 @@ fn select_each(order: SelectOrder, values: &mut [i64], second: &[i64], third: &[
     }
 }
 
-/// The operation on two values, of which the second comes first where they are swapped.
+/// Returns the result of the operation on x and y, or on y and x if the link is swapped.
 #[inline(always)]
 pub(crate) fn either_way(link: Link, x: i64, y: i64) -> i64
     ensures { result ≡ either_way link.operation link.swapped x y }
@@ -239,7 +256,7 @@ pub(crate) fn either_way(link: Link, x: i64, y: i64) -> i64
     }
 }
 
-/// Select's value, from its operands' in the order in which they are worked out.
+/// Returns the value of a select, given its operands in the order in which they were evaluated.
 #[inline(always)]
 fn selected(order: SelectOrder, first: i64, second: i64, third: i64) -> i64
     ensures { result ≡ selected order first second third }
@@ -251,7 +268,7 @@ fn selected(order: SelectOrder, first: i64, second: i64, third: i64) -> i64
     }
 }
 
-/// One of two values.
+/// Returns `yes` if the condition is true, else `no`.
 #[inline(always)]
 fn chosen(condition: i64, yes: i64, no: i64) -> i64
     ensures { result ≡ (if is_true condition then yes else no) }

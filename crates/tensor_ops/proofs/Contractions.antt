@@ -59,7 +59,7 @@ pub record IsContraction (pairs : List (ℕ × ℕ)) (ds es : List ℕ) (a b : �
       → value p ≡ contracted pairs ds es (λ js. a (place ds js))
       (λ js. b (place es js)) (index_of (outer_dims pairs ds es) p)
 
--- two operands as rows, so many of so many values
+-- two operands as rows: m rows of n values, and w rows of n' values
 module _ (pairs : List (ℕ × ℕ)) (ds es : List ℕ) (a b : ℕ → ℤ) (m n w n' : ℕ)
     (first second : ℕ → ℕ → ℤ) (axes others : List ℕ)
     (legal : IsOk (contracted_dims widest pairs ds es))

@@ -1,4 +1,4 @@
--- Convolutions of operands that were lowered, and their values, worked out.
+-- Convolutions of operands that were lowered, and their computed values.
 use Rattle.std.proofs.Common.{◌≡◌, ℕ, ℤ, ◌<◌, List, Ok, sym, subst, arith}
 use Rattle.tensor_shape.specs.Index.{size_of, IsIndexOf, place, index_of}
 use Rattle.tensor_terms.specs.Convolution.{convolved, convolved_dims}

@@ -17,7 +17,7 @@ module _ (inputs : List Contents) (t : Term) where
   map-values_from f first count same within =
       map-shifted f (value_of_place t inputs) first first count (λ k below. same (first + k) (omega arith))
 
-  -- so many values
+  -- the number of values is count
   pub length-values_from : (first count : ℕ) → length (values_from t inputs first count) ≡ count
   length-values_from first count = length-map-range_with_len (value_of_place t inputs) first count
 

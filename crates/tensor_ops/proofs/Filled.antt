@@ -1,4 +1,4 @@
--- Values at places that were worked out into a list, or are at hand.
+-- Values at places that were computed into a list, or are at hand.
 use Rattle.std.proofs.Common.{◌≡◌, ℕ, ℤ, pos, ◌+◌, ◌<◌, ◌++◌, List, length, map, take, drop, get_or, ap, ◌∙◌, arith}
 use Rattle.std.specs.List.{range_with_len}
 use Rattle.std.proofs.Math.Seq.{take-append_seam}

@@ -125,7 +125,7 @@ gives-pairwise o a b whole ds es rs same result full joined =
           ∙ ap (λ q. combined o (meaning a q) (meaning b q)) (sym (place-index_of ds p below));
     }))
 
--- values that were worked out
+-- values that were computed
 pub gives-list : (whole lowered : Lowered) (items : List ℤ) (ds : List ℕ) (count : ℕ) → IsListOf whole items → IsSound whole
     → items ≡ map (meaning lowered) (range_with_len 0 count) → count ≡ size_of ds → Gives whole ds (meaning_at lowered ds)
 gives-list whole lowered items ds count is sound same full = record {

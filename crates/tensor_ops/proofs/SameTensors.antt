@@ -117,7 +117,7 @@ pub record IsSameTensor (s : Term) (ss : List Contents) (t : Term) (ts : List Co
     pub values : Agree (shape_of t ts) (value s ss) (value t ts)
 
 module _ (ss ts : List Contents) where
-  -- a tensor that was worked out
+  -- a tensor that was computed
   pub same-worked_out : (n : ℕ) (t : Term) → IsOk (dims_of widest t ts) → input_of ss n ≡ tensor_of t ts
       → IsSameTensor (input n) ss t ts
   same-worked_out n t has here = record {

@@ -18,7 +18,7 @@ use Rattle.tensor_terms.proofs.Splits.{length-index_of}
 use Rattle.tensor_views.proofs.Stepping.{strides_from-short, place-window_index}
 use Rattle.tensor_terms.proofs.Convolutions.{known, convolved-shape, length-result, under-below}
 
--- so many numbers are the steps of all index lists
+-- count numbers are the steps of all index lists
 pub record HasSteps (count : ℕ) (number : ℕ → ℕ) (steps sizes : List ℕ) : Type 0 where
   pub len : count ≡ size_of sizes
   pub each : (p : ℕ) → p < size_of sizes → number p ≡ stepped steps (index_of sizes p)

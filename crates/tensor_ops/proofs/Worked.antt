@@ -1,4 +1,4 @@
--- Operations on operands that were lowered, and values that were worked out.
+-- Operations on operands that were lowered, and values that were computed.
 use Rattle.std.proofs.Common.{◌≡◌, ℕ, ℤ, pos, ◌<◌, List, ◌++◌, length, take, map, [], Ok, refl, ap, sym, ◌∙◌}
 use Rattle.std.proofs.Common.{subst, arith}
 use Rattle.std.specs.List.{range_with_len}
@@ -95,7 +95,7 @@ values-agree count at ds f values js is_index =
     values.each (place ds js) (place-below-size_of ds js is_index)
     ∙ ap f (index_of-place ds js is_index)
 
--- what is lowered has its own values, and those that are worked out
+-- a lowered expression has its own values
 pub values-lowered : (lowered : Lowered) (ds : List ℕ) (f : List ℕ → ℤ) → Gives lowered ds f
     → HasValues (count_of lowered) (meaning lowered) ds f
 values-lowered lowered ds f gives = record { whole = gives.count; each = gives.means }
@@ -138,7 +138,7 @@ values-worked at items count n ds f values same full = record {
 pub take-written : (n : ℕ) (xs ys : List ℤ) → n ≡ length xs → take n (xs ++ ys) ≡ xs
 take-written n xs ys whole = rw whole (take-append_seam xs ys)
 
--- worked out values, lowered
+-- computed values, lowered
 pub gives-worked : (whole : Lowered) (items : List ℤ) (ds : List ℕ) (f : List ℕ → ℤ)
     → IsListOf whole items → IsSound whole
     → HasValues (length items) (value_in items) ds f → Gives whole ds f

@@ -10,6 +10,7 @@ pub use Rattle.tensor_values.specs.declared.reducer.Reducer
 pub use Rattle.tensor_scans.specs.declared.operation.LineOperation
 pub use Rattle.tensor_terms.specs.Contents
 pub use Rattle.tensor_terms.specs.Contraction
+pub use Rattle.tensor_terms.specs.Facts
 pub use Rattle.tensor_terms.specs.Movement
 pub use Rattle.tensor_terms.specs.Reduction
 pub use Rattle.tensor_terms.specs.Result

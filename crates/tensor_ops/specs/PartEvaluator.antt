@@ -1,4 +1,4 @@
--- What an evaluator of parts evaluates.
+-- What a `PartEvaluator` evaluates.
 use Rattle.std.specs.Prelude.{List}
 use Rattle.tensor_terms.specs.Contents.{Contents}
 use Rattle.tensor_terms.specs.Tensors.{tensors_in}
@@ -6,7 +6,7 @@ use Rattle.tensor_terms.specs.Term.{Term}
 use Rattle.tensor_terms.specs.Tree.{term_of}
 use Rattle.tensor_ops.specs.declared.part_evaluator.PartEvaluator.{PartEvaluator}
 
--- the term of whose values it gives parts
+-- the term whose values it returns parts of
 abbrev pub term_in_parts : PartEvaluator → Term
 term_in_parts e = term_of e.expr.now
 

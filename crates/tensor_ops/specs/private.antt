@@ -1,4 +1,4 @@
--- What private clauses and proofs of this crate cite, and no other crate.
+-- Definitions that only this crate's private clauses and proofs cite.
 pub mod ContractedRuns
 pub mod FirstRun
 pub mod InRuns

@@ -1,4 +1,5 @@
-//! The values of an expression at ranges of places.
+//! `TensorEvaluator`: the values of an expression, by ranges of places. tensor_reduce and
+//! prepared_expressions evaluate by it; specs/Evaluator defines what it evaluates.
 
 pub(crate) mod plain;
 pub(crate) mod root;
@@ -19,8 +20,8 @@ use std::alloc::{AllocError, Allocator, Global};
 use tensor_shape::Dims;
 use tensor_terms::{Expr, Inputs, Tensor, Tensors};
 
-/// An expression that has result dims, over its inputs, made ready to be evaluated by ranges of
-/// places, as Eigen's evaluator of the same name. It is made once; all who work on ranges of it
+/// An expression that has result dims, with its inputs, made ready to be evaluated by ranges of
+/// places, as by Eigen's evaluator of this name. It is made once. All threads that evaluate ranges
 /// share it.
 #[derive(Drop)]
 pub struct TensorEvaluator<'a> {
@@ -39,9 +40,12 @@ pub struct TensorEvaluator<'a> {
 impl<'a> TensorEvaluator<'a> {
     ghost use Rattle.tensor_ops.specs.Evaluator.{term_evaluated, inputs_evaluated};
 
-    /// An evaluator of an expression. Reductions and contractions below its last operation are
-    /// worked out here, and so is what a reduction or a contraction takes, but for what a contraction
-    /// takes of a list along a view; operands of broadcasts are, too, at most 32,768 values of them.
+    /// Returns an evaluator of an expression over inputs.
+    ///
+    /// What must be a list is evaluated here: reductions, contractions, convolutions, takes and
+    /// operations along an axis below the last operation, and the operands of the last operation if
+    /// it is one of these. A list that a contraction reads along a view is mostly read where it
+    /// lies. Operands of broadcasts are evaluated here too, up to 32,768 values of all of them.
     pub fn of(
         alloc: Global,
         expr: &'a Expr,
@@ -52,13 +56,13 @@ impl<'a> TensorEvaluator<'a> {
         ensures term { IfOk result (λ e. term_evaluated e ≡ term_of expr.now) }
         ensures inputs { IfOk result (λ e. inputs_evaluated e ≡ inputs.now.tensors) }
     {
-        // Says that dims can go as far as the inputs' bounds.
+        // For the proof: the inputs' bounds are bounds of dims.
         let _limit = inputs.bounds();
         TensorEvaluator::over(alloc, expr, inputs, &[])
     }
 
-    /// The same where other tensors stand behind the inputs: the first of them has the number of
-    /// inputs for its own.
+    /// Returns an evaluator of an expression over inputs and other tensors. The other tensors are
+    /// numbered after the inputs. What is evaluated here is as in [`TensorEvaluator::of`].
     pub fn over(
         alloc: Global,
         expr: &'a Expr,
@@ -83,16 +87,16 @@ impl<'a> TensorEvaluator<'a> {
         })
     }
 
-    /// The result dims.
+    /// Returns the result dims.
     pub fn dims(&self) -> &Dims
         ensures { result.now ≡ shape_of (term_evaluated self.now) (inputs_evaluated self.now) }
     {
         &self.dims
     }
 
-    /// The values of the expression at the places from the first to before the last of its result,
-    /// in order. Takes memory for them, and of the allocator that the evaluator was made with for a
-    /// few pieces of 1,024 places.
+    /// Returns the values of the expression at the places `[first, last)` of its result, in order.
+    /// Memory for the values comes from `alloc`. A few pieces of 1,024 places come from the
+    /// evaluator's own allocator.
     pub fn values<A: Allocator>(
         &self,
         alloc: A,
@@ -109,13 +113,13 @@ impl<'a> TensorEvaluator<'a> {
             .values(self.alloc, alloc, first as usize, last as usize)
     }
 
-    /// Writes the values of the expression from a place of its result on, as many as there is room
-    /// for, in order, whatever stands there: those that [`TensorEvaluator::values`] gives. Takes
-    /// memory for pieces of 1,024 places and for what a contraction packs, and none for the values.
+    /// Writes the values of the expression from place `first` of its result on, in order, as many
+    /// as `out` has room for. They are the values that [`TensorEvaluator::values`] returns. Takes
+    /// memory for pieces of 1,024 places and for what a contraction packs, none for the values.
     ///
     /// # Errors
     ///
-    /// Want of memory, which leaves anything in the list.
+    /// An allocation fails. Then `out` has any values.
     pub fn fill(&self, first: u64, out: &mut [i64]) -> Result<(), AllocError>
         requires within { first + length out.old
             ≤ size_of (shape_of (term_evaluated self.now) (inputs_evaluated self.now)) }

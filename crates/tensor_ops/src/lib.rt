@@ -1,20 +1,12 @@
 //! Expressions over tensors of wrapping 64-bit integers, as in Eigen's Tensor module: their result
-//! dims, the value at one place, and the values of ranges of places, of which one is the whole.
+//! dims, the value at one place, and the values of any range of places, on one thread. An
+//! expression is lowered to a tree without dims, its views are sunk to the lists that they read,
+//! and the values are then computed by loops over places. README.md has the picture, CALLING.md the
+//! calls in order.
 //!
-//! How values come to be:
-//!
-//! ```text
-//! Expr               a tree of operations, with arguments (tensor_terms)
-//!  │ lowering        one walk over the tree, node by node; what is to be a list by then is
-//!  │                 worked out: operands of reductions, contractions and convolutions
-//! Lowered            a tree without dims and arguments: a movement is a view
-//!  │ sinking         each view goes down to the list that it reads, composed with those it meets
-//! Lowered, sunk      lists, each read along one view; all else is in order
-//!  │
-//! Root               that tree, or a reduction or a contraction made ready (operands)
-//!  │ values          by 1,024 places (tensor_loops), or by rows and tiles (tensor_kernels)
-//! values of a range
-//! ```
+//! The readers of requests, prepared_expressions, tensor_reduce and tensor_runner use what is
+//! public here. The contracts of lowering and of evaluation meet in specs/private/Meaning, which
+//! no other crate cites.
 #![tactic(auto)]
 
 mod evaluator;

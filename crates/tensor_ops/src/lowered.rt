@@ -1,5 +1,6 @@
-//! Lowered expressions: what is left of an expression once index lists are dealt with, a tree whose
-//! values are asked for by place. The values are worked out by loops over places.
+//! Lowered expressions: a tree without dims, index lists and arguments, whose values are computed
+//! by loops over places. `lowering` makes it, `sinking` moves its views. A new kind of node also
+//! needs its meaning in specs/private/Meaning, and a case in `filling` and `at_hand`.
 
 pub(crate) mod at_hand;
 pub(crate) mod chaining;
@@ -30,31 +31,32 @@ use tensor_shape::Dims;
 use tensor_values::{Turns, UnaryScalar};
 use tensor_views::{Places, Reading, Row, View};
 
-/// How many places are worked out at a time, so that their values stay in the nearest cache.
+/// The number of places that are computed at a time, so that their values stay in the nearest
+/// cache.
 pub(crate) const PIECE: usize = 1024;
 
-/// How many places a turn of two operands has at least where their values are added part by part.
+/// The least number of places of a turn, of both operands together, for which values are appended
+/// part by part.
 const LONG_TURN: usize = 64;
 
-/// An expression over inputs that are lent, without dims, index lists and arguments. Where there
-/// are several operands the first is the one that wants the most memory, which is then worked out
-/// while nothing of the others is held.
+/// An expression over borrowed inputs, without dims, index lists and arguments. Of several
+/// operands, except of `Interleaved`, the first is the one that needs the most memory. It is
+/// computed first, while nothing is held of the others.
 pub(crate) enum Lowered<'a> {
     /// The values of an input.
     Borrowed(&'a [i64]),
-    /// Values that were worked out before.
+    /// Values that were computed before.
     Stored(Vec<i64>),
-    /// One value at so many places.
+    /// One value, at the given number of places.
     Filled(i64, usize),
-    /// The operation on the value at the same place.
+    /// An operation on the value at the same place.
     Unary(UnaryScalar, Box<Lowered<'a>>),
-    /// The operation on both values at the same place, of which the second comes first where they
-    /// are swapped.
+    /// An operation on both values at the same place, in the order that the link says.
     Binary(Link, Box<Lowered<'a>>, Box<Lowered<'a>>),
-    /// The operations, one after the other, on the first operand's value and the second's at the
-    /// same place.
+    /// Operations one after the other, each on the result so far, which begins with the first
+    /// operand's value, and on the second operand's value at the same place.
     Chain(Vec<Link>, Box<Lowered<'a>>, Box<Lowered<'a>>),
-    /// Select on the three values at the same place.
+    /// Select, on the three values at the same place.
     Select(SelectOrder, Box<Lowered<'a>>, Box<Lowered<'a>>, Box<Lowered<'a>>),
     /// The operand's value at the place that a view reaches.
     View(View, Box<Lowered<'a>>),
@@ -62,7 +64,7 @@ pub(crate) enum Lowered<'a> {
     Interleaved(Turns, Box<Lowered<'a>>, Box<Lowered<'a>>),
 }
 
-// Said once, where a derived drop is unfolded wherever one may be dropped.
+// Written out, as a derived drop would be unfolded in each proof that drops a tree.
 impl Drop for Lowered<'_> {
     fn drop(self) {
         match self {
@@ -80,8 +82,8 @@ impl Drop for Lowered<'_> {
 }
 
 impl<'a> Lowered<'a> {
-    /// The values at the places from the first to before the last, in order, in memory of their
-    /// own allocator.
+    /// Returns the values at the places `[first, last)`, in order. `target` allocates the values,
+    /// `alloc` what is needed meanwhile.
     pub(crate) fn values<A: Allocator>(
         &self,
         alloc: Global,
@@ -105,8 +107,8 @@ impl<'a> Lowered<'a> {
         Ok(values)
     }
 
-    /// All its values, where it has these dims: lent where they are an input's, and else worked
-    /// out.
+    /// Returns all values, if this has the given dims: borrowed if they are an input's, or else
+    /// computed.
     pub(crate) fn into_values(
         self,
         alloc: Global,
@@ -122,8 +124,8 @@ impl<'a> Lowered<'a> {
     }
 }
 
-/// Adds the values at the places from one to before another. Where two operands have long turns
-/// each value is copied once, from where it is.
+/// Appends the values at the places `[from, to)`. If two operands have long turns, each value is
+/// copied once, from where it stands.
 #[cycle(add_values)]
 fn add_values<A: Allocator>(
     alloc: Global,
@@ -149,8 +151,8 @@ fn add_values<A: Allocator>(
     }
 }
 
-/// Adds the values of two operands in turns at the places from one to before another, by what is of
-/// one operand and one turn.
+/// Appends the values of two operands in turns at the places `[from, to)`, one part of a turn of
+/// one operand at a time.
 #[cycle(add_values)]
 fn add_turns<A: Allocator>(
     alloc: Global,
@@ -185,7 +187,7 @@ fn add_turns<A: Allocator>(
     Ok(())
 }
 
-/// The values at places, in their order. Those of a run of a list are lent.
+/// Returns the values at places, in their order. A run of a list is borrowed.
 #[cycle(values_at)]
 pub(crate) fn values_at<'t, 'a>(
     alloc: Global,
@@ -246,9 +248,9 @@ pub(crate) fn values_at<'t, 'a>(
     }
 }
 
-/// Values at places become the operation's of them and an operand's there, of which the second comes
-/// first where they are swapped. Of one value, and of a list that is read along long rows, no values
-/// are put aside.
+/// Combines each value with the operand's value at its place; the link says the operation and the
+/// order. The operand's values aren't copied if it is one value, or a list that is read along long
+/// rows.
 #[cycle(values_at)]
 pub(crate) fn combine_at(
     alloc: Global,
@@ -282,8 +284,8 @@ pub(crate) fn combine_at(
     Ok(())
 }
 
-/// The values of two operands in turns at places. Where the places are a run those of each operand
-/// are one, too, and where it is in one operand nothing is copied.
+/// Returns the values of two operands in turns at places. If the places are a run of one operand,
+/// nothing is copied.
 #[cycle(values_at)]
 fn interleaved_at<'t, 'a>(
     alloc: Global,
@@ -329,7 +331,7 @@ fn interleaved_at<'t, 'a>(
     }
 }
 
-/// The values, copied where they are lent.
+/// Returns the values as a list of their own, copied if they are borrowed.
 pub(crate) fn owned(
     alloc: Global,
     values: CowSlice<'_, i64, Global>,

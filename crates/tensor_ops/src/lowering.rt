@@ -1,4 +1,6 @@
-//! Lowering: from an expression to a tree without dims, index lists and arguments, in one walk.
+//! Lowering: from an expression to a tree without dims, index lists and arguments, in one walk. A
+//! new operation of tensor_terms needs a case here. What each case must give is defined by `Gives`
+//! in specs/private/Lowering.
 
 pub(crate) mod axis;
 pub(crate) mod convolution;
@@ -34,7 +36,8 @@ use tensor_terms::{Binary, Expr, Movement, Node, Tensors, Ternary, Unary, moved_
 use tensor_values::BinaryScalar;
 use tensor_views::View;
 
-/// An expression lowered, where so many places of operands may still be worked out.
+/// Returns an expression lowered. `room` is the number of places of operands of broadcasts that may
+/// still be evaluated; those that are evaluated are taken off.
 #[cycle(lower)]
 pub(crate) fn lower<'a>(
     alloc: Global,
@@ -74,7 +77,7 @@ pub(crate) fn lower<'a>(
     }
 }
 
-/// Two expressions, lowered one after the other.
+/// Returns two expressions lowered, the first one first.
 #[cycle(lower)]
 pub(crate) fn lower_two<'a>(
     alloc: Global,
@@ -102,7 +105,7 @@ pub(crate) fn lower_two<'a>(
     Ok((first, second))
 }
 
-/// An operation on one tensor, lowered.
+/// Returns an operation on one tensor, lowered.
 fn lower_unary<'a>(
     alloc: Global,
     operation: Unary<'_>,
@@ -142,7 +145,7 @@ fn lower_unary<'a>(
     }
 }
 
-/// An operation on two tensors, lowered.
+/// Returns an operation on two tensors, lowered.
 fn lower_binary<'a>(
     alloc: Global,
     operation: Binary<'_>,
@@ -171,8 +174,8 @@ fn lower_binary<'a>(
     }
 }
 
-/// An operation on each two values, lowered. The operand that wants more pieces comes first, and one
-/// value at all places second.
+/// Returns an operation on each two values, lowered. The operand that needs more pieces comes
+/// first, and an operand that has one value at all places second.
 fn lower_pairwise<'a>(
     alloc: Global,
     operation: BinaryScalar,
@@ -202,7 +205,7 @@ fn lower_pairwise<'a>(
     }
 }
 
-/// An operation on each two values, lowered, of which the second comes first where they are swapped.
+/// Returns an operation on each two values, lowered, with its operands in the given order.
 fn pair<'a>(
     alloc: Global,
     link: Link,
@@ -227,7 +230,7 @@ fn pair<'a>(
     })
 }
 
-/// Select, lowered. The operand that wants most pieces comes first.
+/// Returns a select, lowered. The operand that needs most pieces comes first.
 fn lower_select<'a>(
     alloc: Global,
     condition: Part<'a>,
@@ -256,7 +259,7 @@ fn lower_select<'a>(
     }
 }
 
-/// Select, lowered, with its operands in this order.
+/// Returns a select, lowered, with its operands in the given order.
 fn three<'a>(
     alloc: Global,
     order: SelectOrder,
@@ -285,7 +288,7 @@ fn three<'a>(
     })
 }
 
-/// A movement, lowered. Where it has no values nothing is read of the operand.
+/// Returns a movement, lowered. If it has no values, the operand is dropped.
 pub(crate) fn lower_movement<'a>(
     alloc: Global,
     movement: Movement<'_>,
@@ -328,8 +331,8 @@ pub(crate) fn lower_movement<'a>(
     })
 }
 
-/// An operand with its values worked out, where it has fewer places than are read of it, as that of
-/// a broadcast, and there is room.
+/// Returns an operand, evaluated if that saves work: it has fewer places than are read of it, as
+/// the operand of a broadcast has, its values aren't at hand, and there is room.
 fn stored<'a>(
     alloc: Global,
     lowered: Lowered<'a>,

@@ -1,5 +1,6 @@
-//! How operands of given dims lie in lists: what reductions, contractions and convolutions read, as
-//! rows, strips and runs.
+//! How operands with given dims lie in lists, as reductions, contractions and convolutions read
+//! them: rows, strips, runs and lines. The tables of places come from tensor_views, the loops from
+//! tensor_loops, tensor_kernels and tensor_scans.
 
 pub(crate) mod along;
 pub(crate) mod contraction;

@@ -1,4 +1,6 @@
-//! Parts of the values of reductions and contractions.
+//! `PartEvaluator`: parts of the values of reductions and contractions. tensor_reduce combines
+//! parts that several threads compute, and prepared_expressions uses it too; specs/Parts defines
+//! what a part is.
 
 pub(crate) mod contracted_runs;
 pub(crate) mod in_runs;
@@ -21,11 +23,13 @@ use crate::part_evaluator::in_runs::InRuns;
 use std::alloc::{AllocError, Allocator, Global};
 use tensor_terms::{Expr, Inputs, Tensor, Tensors};
 
-/// A reduction or a contraction that has result dims, over its inputs, made ready to be evaluated
-/// by parts of its values: what some of the index lists give that a value is over. It is made once;
-/// all who work on parts of it share it. Its operands are worked out as parts are asked for, so a
-/// part takes no memory but for a few pieces of 1,024 values, or, where a reduction reads a
-/// contraction along its first axes, for those values of the contraction that it is over.
+/// A reduction or a contraction with its inputs, made ready to be evaluated by parts of its values.
+/// A part is what some of the index lists contribute to one value. All threads that evaluate parts
+/// share it.
+///
+/// Operands are computed as parts are asked for, by pieces of 1,024 values. There is one exception:
+/// if a reduction reads a contraction along its first axes, a call takes memory for all values of
+/// the contraction that it combines.
 #[derive(Drop)]
 pub struct PartEvaluator<'a> {
     alloc: Global,
@@ -45,11 +49,12 @@ pub struct PartEvaluator<'a> {
 impl<'a> PartEvaluator<'a> {
     ghost use Rattle.tensor_ops.specs.PartEvaluator.{term_in_parts, inputs_in_parts};
 
-    /// An evaluator of the parts of a reduction or a contraction, where other tensors stand behind
-    /// the inputs: the first of them has the number of inputs for its own. Reductions and
-    /// contractions below are worked out here, and operands of broadcasts, at most 32,768 values of
-    /// them. But a contraction that a reduction reads along its first axes is only made ready here,
-    /// and worked out part by part.
+    /// Returns an evaluator of the parts of a reduction or a contraction, over inputs and other
+    /// tensors. The other tensors are numbered after the inputs.
+    ///
+    /// Reductions, contractions and other operations on lists below the last operation are
+    /// evaluated here, and operands of broadcasts, up to 32,768 values of all of them. A
+    /// contraction that a reduction reads along its first axes is only made ready here.
     pub fn over(
         alloc: Global,
         expr: &'a Expr,
@@ -74,16 +79,15 @@ impl<'a> PartEvaluator<'a> {
         })
     }
 
-    /// How many index lists a value is over: those of the dropped axes of a reduction, or of the
-    /// paired ones of a contraction.
+    /// Returns the number of index lists that contribute to a value: over the dropped axes of a
+    /// reduction, or over the paired axes of a contraction.
     pub fn inner(&self) -> u64
         ensures { result ≡ inner_size (term_in_parts self.now) (inputs_in_parts self.now) }
     {
         self.runs.length() as u64
     }
 
-    /// The part of the value at a place that the index lists from the first to before the last
-    /// give.
+    /// Returns what the index lists `[first, last)` contribute to the value at a place.
     pub fn part(&self, place: u64, first: u64, last: u64) -> Result<i64, AllocError>
         requires place { place
             < size_of (shape_of (term_in_parts self.now) (inputs_in_parts self.now)) }
@@ -96,10 +100,10 @@ impl<'a> PartEvaluator<'a> {
             .part(self.alloc, place as usize, first as usize, last as usize)
     }
 
-    /// The values at the places from the first to before the last, in order, each what all index
-    /// lists give that it is over. Takes memory for them. Where they are over few index lists, many
-    /// are worked out together; and all are where a reduction reads a contraction along its first
-    /// axes, which takes memory for all values of the contraction that they are over.
+    /// Returns the values at the places `[first, last)`, in order, each with all its index lists.
+    /// `alloc` allocates the values. If few index lists contribute to a value, many values are
+    /// computed at once. If a reduction reads a contraction along its first axes, all of them are,
+    /// which takes memory for all values of the contraction that are combined.
     pub fn wholes<A: Allocator>(
         &self,
         alloc: A,

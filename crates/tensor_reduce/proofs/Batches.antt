@@ -16,7 +16,7 @@ module _ {I : Type 0} (item_at : ℕ → I) where
       (map-from start (from + 1) count
       ∙ ap (λ (n : ℕ). map item_at (range_with_len n count)) next)
 
-  -- the same of the items of a kernel and of one of its batches
+  -- the items of a kernel are the items of one of its batches
   pub items-from : (start first last : ℕ) (items : List I)
       → AreItems item_at (start + first) (start + last) items
       → AreItems (λ k. item_at (start + k)) first last items

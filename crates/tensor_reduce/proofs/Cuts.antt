@@ -10,7 +10,8 @@ use Rattle.tensor_ops.specs.Shaped.{Shaped}
 use Rattle.tensor_ops.specs.Term.{Term, input, unary, binary, ternary, Unary, Binary, Ternary}
 use Rattle.tensor_reduce.specs.private.Cutting.{IsCut, IsSplitOff}
 use Rattle.tensor_reduce.specs.Plan.{term_of_step, dims_of_step, terms_in, dims_in}
-use Rattle.tensor_reduce.specs.Steps.{combines, combines_two, own, operand_nodes, number_of, Cut}
+use Rattle.tensor_ops.specs.Facts.{combines, combines_two}
+use Rattle.tensor_reduce.specs.Steps.{own, operand_nodes, number_of, Cut}
 use Rattle.tensor_reduce.specs.Steps.{split_off, cut}
 use Rattle.tensor_reduce.specs.declared.step.Step.{Step}
 

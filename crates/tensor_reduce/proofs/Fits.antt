@@ -1,4 +1,4 @@
--- Steps worked out one after the other give the tensors of their nodes.
+-- Steps evaluated one after the other give the tensors of their nodes.
 use Rattle.std.proofs.Common.{◌≡◌, ℕ, ◌+◌, ◌^◌, ◌<◌, ◌≤◌, List, [], ◌∷◌, ◌++◌, length, map}
 use Rattle.std.proofs.Common.{Bool, true, false, ◌&&◌, ◌||◌, Ok, IsOk, refl, ap, sym, subst, ◌∙◌}
 use Rattle.std.proofs.Common.{arith}
@@ -15,7 +15,8 @@ use Rattle.tensor_ops.proofs.Shapes.{with_one-known, with_two-known, with_three-
 use Rattle.tensor_ops.specs.Sequence.{worked_out}
 use Rattle.tensor_reduce.specs.Plan.{term_of_step, dims_of_step, terms_in, dims_in}
 use Rattle.tensor_reduce.specs.Plan.{AreReady}
-use Rattle.tensor_reduce.specs.Steps.{combines, combines_two, own, operand_nodes, step_nodes}
+use Rattle.tensor_ops.specs.Facts.{combines, combines_two}
+use Rattle.tensor_reduce.specs.Steps.{own, operand_nodes, step_nodes}
 use Rattle.tensor_reduce.specs.Steps.{is_input}
 use Rattle.tensor_reduce.specs.Steps.{Cut, split_off, cut, steps_of, is_single}
 use Rattle.tensor_reduce.specs.declared.step.Step.{Step}
@@ -29,7 +30,7 @@ module _ (inputs : List Contents) where
   abbrev pub tensors_of : List Term → List Contents
   tensors_of ts = map (λ t. tensor_of t inputs) ts
 
-  -- a term that can be worked out in one go, as the tensor of a node
+  -- a term that can be evaluated as one step, as the tensor of a node
   pub record IsFit (tensors : List Contents) (u t : Term) : Type 0 where
     pub same : IsSameTensor u tensors t inputs
     pub names : has_inputs u (length tensors) ≡ true

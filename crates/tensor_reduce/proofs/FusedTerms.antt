@@ -17,7 +17,8 @@ use Rattle.tensor_ops.proofs.SameTensors.{same-binary, same-ternary}
 use Rattle.tensor_ops.proofs.Shapes.{with_one-known, with_two-known, with_three-known}
 use Rattle.tensor_reduce.specs.private.Fusing.{instead, fused_with}
 use Rattle.tensor_reduce.specs.private.Readers.{reads}
-use Rattle.tensor_reduce.specs.Steps.{combines, combines_two, is_combining, is_input, is_single}
+use Rattle.tensor_ops.specs.Facts.{combines, combines_two, is_combining}
+use Rattle.tensor_reduce.specs.Steps.{is_input, is_single}
 
 pub nat_eq-itself : (n : ℕ) → nat_eq n n ≡ true
 nat_eq-itself n = eq-eqb n n refl

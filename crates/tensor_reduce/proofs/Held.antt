@@ -23,14 +23,14 @@ use Rattle.tensor_reduce.specs.Plan.{IsReady, AreReady}
 use Rattle.tensor_reduce.specs.private.Fusing.{fused_with}
 use Rattle.tensor_reduce.specs.private.Held.{AreHeldFor, AreHeld}
 use Rattle.tensor_reduce.specs.private.Readers.{reads, are_reading}
-use Rattle.tensor_reduce.specs.Steps.{is_combining}
+use Rattle.tensor_ops.specs.Facts.{is_combining}
 use Rattle.tensor_reduce.specs.declared.step.Step.{Step}
 use Rattle.tensor_reduce.proofs.Planned.{last_tensor-append}
 use Rattle.tensor_reduce.proofs.FusedTerms.{other-number, same-read, same-fused_with, names-fused_with}
 use Rattle.tensor_reduce.proofs.FusedTerms.{ReadDirectly, ReadDirectly-single, ReadDirectly-fused_with}
 use Rattle.tensor_reduce.proofs.FusedTerms.{reads-fused_with, is_combining-fused_with}
 
--- the tensor of the step behind so many others, none of whose tensors a step behind it reads
+-- the tensor of the step behind n others, if no later step reads the tensors of these
 abbrev pub IsFusedTensor : ℕ → List Step → List Contents → Contents → Type 0
 IsFusedTensor n [] all tensor = ⊥
 IsFusedTensor zero (s ∷ left) all tensor = tensor ≡ tensor_of (term_of_step s) all
@@ -38,8 +38,8 @@ IsFusedTensor (suc n) (s ∷ left) all tensor =
     (are_reading (length all) (drop (suc n) left) ≡ false)
     × IsFusedTensor n left (all ++ tensor_of (term_of_step s) all ∷ []) tensor
 
--- a term that gives over what is held what the step behind so many others gives, none of whose
--- tensors a step behind it reads
+-- a term that over the held tensors gives what the step behind n others gives, if no later step
+-- reads the tensors of these
 abbrev pub IsFusedTerm : ℕ → List Step → List Contents → List Contents → Term → Type 0
 IsFusedTerm n [] held all t = ⊥
 IsFusedTerm zero (s ∷ left) held all t = IsSameTensor t held (term_of_step s) all
@@ -168,7 +168,7 @@ held-read (s ∷ left) (x ∷ more) held all t many ready there is =
     (held-read left more (held ++ x ∷ []) (all ++ made ∷ []) t still ready.1
     (read-more rest held all x made many there (inr is.0)) is.1)
 
--- the same of tensors from which the steps left to do give the whole
+-- tensors from which the steps left give the whole, after a fused step
 pub AreHeld-fused : (left : List Step) (whole held more : List Contents) (t : Contents)
     → AreHeld left whole held
     → ((all : List Contents) → AreHeldFor left held all → IsFusedTensor (length more) left all t)
@@ -219,7 +219,7 @@ module _ (s : Step) (left : List Step) (held all : List Contents)
   abbrev pub more : List Contents
   more = all ++ tensor_of (term_of_step s) all ∷ []
 
-  -- by the number of its tensor it is read as it is worked out
+  -- a later step reads the new tensor by its number
   module _ (n : ℕ) (place : n ≡ length all) where
     read-other : (m : ℕ) → are_reading m left ≡ true → nat_eq m n ≡ false
         → input_of held m ≡ input_of more m
@@ -240,7 +240,7 @@ module _ (s : Step) (left : List Step) (held all : List Contents)
         same-as-read (term_of_step s) (term_of_step s) held all n (ap is_ok are.ready.0.dims) place
         same-first
 
--- all that was worked out is held
+-- all tensors are held
 held-all : (left : List Step) (all : List Contents) → AreReady left all → AreHeldFor left all all
 held-all left all ready = record {
   ready = ready;
@@ -249,7 +249,7 @@ held-all left all ready = record {
   last = refl;
 }
 
--- a step that reads the one before it as that is worked out
+-- a step that reads the one before it without a tensor
 module _ (s r : Step) (later : List Step) (held all : List Contents)
     (are : AreHeldFor (s ∷ r ∷ later) held all) (combining : is_combining (term_of_step r) ≡ true)
     (n : ℕ) (place : n ≡ length all) where
@@ -264,7 +264,7 @@ module _ (s r : Step) (later : List Step) (held all : List Contents)
       (λ m reading. read-other s (r ∷ later) held all are n place m
       (or_left (reads m (term_of_step r)) (are_reading m later) reading))
 
-  -- it can be worked out over what is held
+  -- the fused term can be evaluated over the held tensors
   pub names-two : has_inputs joined-two (length held) ≡ true
   names-two =
       let count : length (more s (r ∷ later) held all are) ≡ length held + 1 =

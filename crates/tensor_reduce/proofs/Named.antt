@@ -15,7 +15,8 @@ use Rattle.tensor_ops.specs.Value.{tensor_of}
 use Rattle.tensor_ops.proofs.SameTensors.{IsSameTensor, same-worked_out, same-input, same-unary}
 use Rattle.tensor_ops.proofs.SameTensors.{same-binary, same-ternary}
 use Rattle.tensor_ops.proofs.Shapes.{with_one-known, with_two-known, with_three-known}
-use Rattle.tensor_reduce.specs.Steps.{combines, combines_two, own, operand_nodes, is_input}
+use Rattle.tensor_ops.specs.Facts.{combines, combines_two}
+use Rattle.tensor_reduce.specs.Steps.{own, operand_nodes, is_input}
 use Rattle.tensor_reduce.specs.Steps.{number_of, Cut, split_off, cut}
 use Rattle.tensor_reduce.specs.Steps.{combines_nothing, is_single}
 
@@ -127,7 +128,7 @@ module _ (inputs : List Contents) where
     pub names : has_inputs u (length tensors) ≡ true
     pub plain : combines_nothing u ≡ true
 
-  -- the same of a term that is worked out in one go, and combines nothing where the node doesn't
+  -- a term that can be evaluated as one step, and combines nothing if the node doesn't
   pub record IsBody (tensors : List Contents) (is_combining : Bool) (u t : Term) : Type 0 where
     pub same : IsSameTensor u tensors t inputs
     pub names : has_inputs u (length tensors) ≡ true

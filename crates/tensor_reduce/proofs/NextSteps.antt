@@ -1,4 +1,4 @@
--- What is worked out next is the tensor of its step, whatever is fused into it.
+-- The step that is evaluated next gives its tensor, whatever is fused into it.
 use Rattle.std.proofs.Common.{◌≡◌, ℕ, ◌+◌, ◌-◌, ◌<◌, ◌≤◌, ◌^◌, List, [], ◌∷◌, ◌++◌}
 use Rattle.std.proofs.Common.{true, Ok, length, get_or, take, drop}
 use Rattle.std.proofs.Common.{refl, ap, sym, subst, ◌∙◌, arith}
@@ -59,7 +59,7 @@ three-steps (x ∷ []) s r c three first second third = absurd (omega arith)
 three-steps (x ∷ y ∷ []) s r c three first second third = absurd (omega arith)
 three-steps (x ∷ y ∷ z ∷ later) s r c three first second third = (cc)
 
--- those behind so many, as a slice has them
+-- the steps behind n others, as a slice has them
 pub later-steps : (left : List Step) (n : ℕ) → take (length left - n) (drop n left) ≡ drop n left
 later-steps left n = take_all (length left - n) (drop n left) (omega (arith, length-drop n left))
 

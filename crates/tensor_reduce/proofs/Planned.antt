@@ -13,7 +13,8 @@ use Rattle.tensor_reduce.specs.private.Cutting.{IsCut, AreStepsOf}
 use Rattle.tensor_ops.specs.Sequence.{worked_out}
 use Rattle.tensor_reduce.specs.Plan.{term_of_step, dims_of_step, terms_in}
 use Rattle.tensor_reduce.specs.Plan.{last_tensor, AreReady}
-use Rattle.tensor_reduce.specs.Steps.{combines, combines_two, own, operand_nodes, step_nodes}
+use Rattle.tensor_ops.specs.Facts.{combines, combines_two}
+use Rattle.tensor_reduce.specs.Steps.{own, operand_nodes, step_nodes}
 use Rattle.tensor_reduce.specs.Steps.{is_input, cut, steps_of}
 use Rattle.tensor_reduce.specs.declared.step.Step.{Step}
 use Rattle.tensor_reduce.proofs.Fits.{AreFit, fit-steps_of, worked_out-fit, AreReady-fit}

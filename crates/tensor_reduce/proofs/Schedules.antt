@@ -5,7 +5,7 @@ use Rattle.tensor_ops.specs.Term.{Term, input, unary, binary, ternary, Unary, Bi
 use Rattle.tensor_ops.specs.Term.{each, constant, movement, pad, reduce, along}
 use Rattle.tensor_ops.specs.Term.{pairwise, concat, contract, convolve, taking}
 use Rattle.tensor_reduce.specs.private.Fusing.{fused_with}
-use Rattle.tensor_reduce.specs.Steps.{combines, combines_two, is_combining}
+use Rattle.tensor_ops.specs.Facts.{combines, combines_two, is_combining}
 use Rattle.tensor_reduce.specs.private.Schedules.{IsScheduleFor, IsFusingFor}
 use Rattle.tensor_reduce.specs.declared.schedule.Schedule.{Schedule}
 use Rattle.tensor_reduce.specs.declared.schedule.Schedule.TheVariants.{Sharded, Ranged}

@@ -25,7 +25,7 @@ use Rattle.tensor_reduce.specs.private.Combined.{reducer_of, shard_value, value_
 use Rattle.tensor_reduce.specs.Shards.{Shard, shards_by, shards_of, most_shards, width_of}
 use Rattle.tensor_reduce.proofs.Sharding.{one-shard, reduced-shards, contracted-shards, width_of-enough}
 
--- of one value
+-- the shards of one value
 combination-shards_of : (t : Term) (inputs : List Contents) (p w : ℕ) → has_parts t ≡ true
     → inner_size t inputs ≤ most_shards * w
     → combination (reducer_of t) (map (shard_value t inputs p) (shards_by (inner_size t inputs) w))
@@ -48,7 +48,7 @@ combination-shards_of (binary (convolve axes) a b) inputs p w parts wide = (cc)
 combination-shards_of (binary (taking axis) a b) inputs p w parts wide = (cc)
 combination-shards_of (ternary o a b c) inputs p w parts wide = (cc)
 
--- those of a value among those of all
+-- the shards of a value among the shards of all values
 shards-of_value : (t : Term) (inputs : List Contents) (shards : List Shard) (found : List ℤ)
     (v p : ℕ) → p < v
     → found ≡ map (value_shard t inputs shards) (range_with_len 0 (v * length shards))
@@ -92,7 +92,7 @@ value_shard-one t inputs n w p some one all =
     (slice_index_or (shards_by n w) (p % length (shards_by n w)) (0, 0))) here
     ∙ ap (shard_value t inputs p) shard ∙ ap (part_value t inputs p 0) count
 
--- of all of them
+-- the shards of all values
 pub tensor_of-shards : (t : Term) (inputs : List Contents) (w : ℕ) (shards : List Shard)
     (found : List ℤ) (made : Contents) → has_parts t ≡ true
     → inner_size t inputs ≤ most_shards * w
@@ -116,7 +116,7 @@ tensor_of-shards t inputs w shards found made parts wide are is dims values =
     (omega arith))
     refl
 
--- the same of a term and tensors that are known by others
+-- these facts for a term and tensors that are equal to others
 module _ (t s : Term) (inputs others : List Contents) (term : s ≡ t) (tensors : others ≡ inputs)
     (ds : List ℕ) (has : dims_of widest t inputs ≡ Ok ds) where
   same-inner : inner_size s others ≡ inner_size t inputs

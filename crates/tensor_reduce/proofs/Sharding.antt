@@ -28,7 +28,7 @@ use Rattle.tensor_reduce.specs.Shards.{shards_by, shards_of}
 use Rattle.tensor_reduce.specs.Shards.{lists_in, lists_of}
 use Rattle.tensor_reduce.proofs.Combining.{IsWhole, whole-unit, whole-combine, fold-combination}
 
--- the index lists of so many shards, from one on
+-- the index lists of k shards, from shard i on
 lists_of-run : (n w i k : ℕ)
     → lists_of (map (shard_at n w) (range_with_len i k))
     ≡ range_with_len (i * w) (min ((i + k) * w) n - i * w)

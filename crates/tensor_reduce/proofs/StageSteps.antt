@@ -1,4 +1,4 @@
--- What is worked out in one go is the tensor of its last step, whatever is fused into it.
+-- The steps that are evaluated together give the tensor of the last one, whatever is fused into it.
 use Rattle.std.proofs.Common.{◌≡◌, ℕ, zero, suc, ◌+◌, ◌-◌, List, [], ◌∷◌, ◌++◌}
 use Rattle.std.proofs.Common.{true, false, Ok, is_ok, length, take, drop, if◌then◌else◌}
 use Rattle.std.proofs.Common.{refl, ap, sym, subst, ◌∙◌, arith}
@@ -95,7 +95,7 @@ IsFusedTerm-more (suc f) (s ∷ left) behind held all n u r schedule ready is he
           (omega (arith, place, length-append all (made ∷ []))) reducing,
     )
 
--- what is worked out of the steps left, over what is held
+-- a stage of the steps left, over the tensors that are held
 module _ (left : List Step) (held all : List Contents) (are : AreHeldFor left held all) where
   pub names-stage : (stage : Stage) → IsStageOf left (length held) stage
       → has_inputs (stage_term stage) (length held) ≡ true
@@ -142,7 +142,7 @@ module _ (left : List Step) (held all : List Contents) (are : AreHeldFor left he
       (IsFusedTensor-term (fused_in_stage stage) left held all (stage_term stage)
       (IsFusedTerm-stage stage is))
 
--- among all steps, of which so many are done; those left are a slice, and the tensors lent
+-- the steps left after done ones, as a slice, and the tensors lent
 module _ (steps : List Step) (done : ℕ) (inputs items lent whole : List Contents)
     (same : lent ≡ items) (are : AreHeld (drop done steps) whole (inputs ++ items)) where
   abbrev pub steps_left : List Step

@@ -1,4 +1,4 @@
--- What the kernel of a step works out.
+-- The items of the kernel of a step.
 use Rattle.std.specs.Prelude.{ℕ, List}
 use Rattle.tensor_ops.specs.Contents.{Contents}
 use Rattle.tensor_ops.specs.Evaluator.{term_evaluated, inputs_evaluated}
@@ -7,7 +7,7 @@ use Rattle.tensor_ops.specs.Result.{shape_of}
 use Rattle.tensor_ops.specs.Term.{Term}
 use Rattle.tensor_reduce.specs.declared.running.step_kernel.StepKernel.{StepKernel}
 
--- the term whose values it works out
+-- the term whose values the kernel computes
 abbrev pub kernel_term : StepKernel → Term
 kernel_term kernel = term_evaluated kernel.evaluator
 
@@ -15,6 +15,6 @@ kernel_term kernel = term_evaluated kernel.evaluator
 abbrev pub kernel_tensors : StepKernel → List Contents
 kernel_tensors kernel = inputs_evaluated kernel.evaluator
 
--- how many places the term has
+-- the number of places of the term
 abbrev pub kernel_size : StepKernel → ℕ
 kernel_size kernel = size_of (shape_of (kernel_term kernel) (kernel_tensors kernel))

@@ -2,7 +2,7 @@
 use Rattle.std.specs.Prelude.{ℕ, nat_eq, Bool, ◌||◌}
 use Rattle.tensor_ops.specs.Term.{Term, input, unary, binary, ternary}
 
--- whether a term reads the tensor of a number
+-- whether a term reads tensor n
 abbrev pub reads : ℕ → Term → Bool
 reads n (input m) = nat_eq m n
 reads n (unary o a) = reads n a

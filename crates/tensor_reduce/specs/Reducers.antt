@@ -1,4 +1,4 @@
--- What combinations are made of.
+-- What a reducer makes of one value.
 use Rattle.std.specs.Prelude.{ℤ}
 use Rattle.tensor_ops.specs.Scalars.{is_true, truth}
 use Rattle.tensor_ops.specs.Reducer.{Reducer}

@@ -1,41 +1,15 @@
--- The steps of a term: the nodes that are worked out as tensors of their own, children first.
+-- The steps of a term: the nodes that become tensors of their own, children first.
 use Rattle.std.specs.Prelude.{ℕ, ◌+◌, ◌^◌, ◌%◌, List, [], ◌∷◌, ◌++◌, length}
 use Rattle.std.specs.Prelude.{Bool, true, false, not, ◌&&◌, ◌||◌, if◌then◌else◌}
+use Rattle.tensor_ops.specs.Facts.{combines, combines_two}
 use Rattle.tensor_ops.specs.Term.{Term, input, unary, binary, ternary}
-use Rattle.tensor_ops.specs.Term.{Unary, each, constant, movement, pad, reduce, along}
-use Rattle.tensor_ops.specs.Term.{Binary, pairwise, concat, contract, convolve, taking}
 
--- whether an operation goes over its operand as a tensor of its own: reductions do, which combine
--- many values into one, and operations along an axis
-abbrev pub combines : Unary → Bool
-combines (each o) = false
-combines (constant v) = false
-combines (movement m) = false
-combines (pad pairs) = false
-combines (reduce r axes) = true
-combines (along o axis) = true
-
--- the same of two operands: contractions, convolutions and takes do
-abbrev pub combines_two : Binary → Bool
-combines_two (pairwise o) = false
-combines_two (concat axis) = false
-combines_two (contract pairs) = true
-combines_two (convolve axes) = true
-combines_two (taking axis) = true
-
--- whether the last operation of a term does
-abbrev pub is_combining : Term → Bool
-is_combining (input n) = false
-is_combining (unary o a) = combines o
-is_combining (binary o a b) = combines_two o
-is_combining (ternary o a b c) = false
-
--- a node, where it is a step
+-- a node, if it is a step
 abbrev pub own : Bool → Term → List Term
 own is_step t = if is_step then t ∷ [] else []
 
--- the nodes of an operand that are steps: each reduction, contraction and convolution, and each
--- operand of these that isn't an input. The operand is one of the latter where it is needed whole
+-- the nodes of an operand that are steps: each node that needs its operands as tensors, and each of
+-- these operands that isn't an input. The operand itself is a step if it is needed whole
 abbrev pub operand_nodes : Bool → Term → List Term
 operand_nodes whole (input n) = []
 operand_nodes whole (unary o a) =
@@ -47,13 +21,14 @@ operand_nodes whole (ternary o a b c) =
     operand_nodes false a ++ operand_nodes false b ++ operand_nodes false c
     ++ own whole (ternary o a b c)
 
+-- whether a term is an input
 abbrev pub is_input : Term → Bool
 is_input (input n) = true
 is_input (unary o a) = false
 is_input (binary o a b) = false
 is_input (ternary o a b c) = false
 
--- the nodes of an expression that are steps. The root is the last, an input too
+-- the nodes of an expression that are steps. The root is the last, even if it is an input
 abbrev pub step_nodes : Term → List Term
 step_nodes t = if is_input t then t ∷ [] else operand_nodes true t
 
@@ -61,20 +36,20 @@ step_nodes t = if is_input t then t ∷ [] else operand_nodes true t
 abbrev pub number_of : ℕ → ℕ
 number_of place = place % 2 ^ 32
 
--- an operand in steps: their terms, and the term that is left of it over the tensors of these
+-- an operand cut into steps: their terms, and the term that is left over the tensors of the steps
 pub record Cut : Type 0 where
   pub steps : List Term
   pub left : Term
 
--- a node behind the steps of its operands, where tensors stand before them: a step itself, by whose
--- tensor it is then named, or a part of what is above it
+-- a node behind the steps of its operands, with before tensors in front of these: a step that is
+-- then named by the number of its tensor, or a part of the node that has it as an operand
 abbrev pub split_off : ℕ → Bool → List Term → Term → Cut
 split_off before is_step steps t =
     if is_step
     then record { steps = steps ++ t ∷ []; left = input (number_of (before + length steps)) }
     else record { steps = steps; left = t }
 
--- an operand in steps, the operands of an operation from the left
+-- an operand cut into steps, the operands of an operation from the left
 abbrev pub cut : ℕ → Bool → Term → Cut
 cut before whole (input n) = record { steps = []; left = input n }
 cut before whole (unary o a) =
@@ -90,12 +65,12 @@ cut before whole (ternary o a b c) =
     let z = cut (before + length x.steps + length y.steps) false c in
     split_off before whole (x.steps ++ y.steps ++ z.steps) (ternary o x.left y.left z.left)
 
--- the steps of an expression over so many inputs, as terms over these and the tensors of the steps
--- before
+-- the steps of an expression over the given number of inputs, as terms over the inputs and the
+-- tensors of earlier steps
 abbrev pub steps_of : ℕ → Term → List Term
 steps_of inputs t = if is_input t then t ∷ [] else (cut inputs true t).steps
 
--- whether a term has no reductions, contractions and convolutions
+-- whether no operation of a term needs its operands as tensors
 abbrev pub combines_nothing : Term → Bool
 combines_nothing (input n) = true
 combines_nothing (unary o a) = not (combines o) && combines_nothing a
@@ -104,8 +79,8 @@ combines_nothing (binary o a b) =
 combines_nothing (ternary o a b c) =
     combines_nothing a && (combines_nothing b && combines_nothing c)
 
--- whether a term can be worked out in one go: one reduction, contraction or convolution of tensors,
--- or a term without any
+-- whether a term can be evaluated as one step: it is one operation on tensors that needs them as
+-- tensors, or has no such operation
 abbrev pub is_single : Term → Bool
 is_single (input n) = true
 is_single (unary o a) = if combines o then is_input a else combines_nothing a

@@ -1,4 +1,5 @@
--- What private clauses and proofs of this crate cite, and no other crate.
+-- Definitions that only this crate's private clauses and proofs cite.
+pub mod Batches
 pub mod Combined
 pub mod Cutting
 pub mod Fusing

@@ -1,21 +1,22 @@
-//! Cutting an expression into steps, in one walk.
+//! Cuts an expression into steps, in one walk. Which nodes are steps is defined in specs/Steps;
+//! both change together.
 
 ghost use Rattle.std.specs.Prelude.{◌≡◌, ◌+◌, length, map, Ok, IsTrue, IsOk, IfOk, vec_len};
 ghost use Rattle.tensor_ops.specs.Legal.{widest};
 ghost use Rattle.tensor_ops.specs.Result.{dims_of, operand_dims};
 ghost use Rattle.tensor_ops.specs.Term.{has_inputs};
-ghost use Rattle.tensor_ops.specs.Tree.{term_of, unary_at, binary_at};
+ghost use Rattle.tensor_ops.specs.Tree.{term_of};
 ghost use Rattle.tensor_reduce.specs.private.Cutting.{IsCut, IsSplitOff, AreStepsOf};
-ghost use Rattle.tensor_reduce.specs.Steps.{combines, combines_two, is_input, number_of};
+ghost use Rattle.tensor_reduce.specs.Steps.{is_input, number_of};
 
 use crate::step::Step;
 use std::alloc::{AllocError, Global};
 use tensor_ops::{Binary, Dims, Expr, Inputs, Node, Unary, WIDEST};
 
-/// How many numbers a tensor among the inputs of an expression may have.
+/// The number of tensors that can have a number.
 pub(crate) const NUMBERS: u64 = 1 << 32;
 
-/// The steps of an expression, of which the root is the last.
+/// Returns the steps of an expression. The root is the last.
 pub(crate) fn steps_of(alloc: Global, inputs: &Inputs, expr: &Expr) -> Result<Vec<Step>, AllocError>
     requires inputs { IsTrue (has_inputs (term_of expr.now) (length inputs.now.tensors)) }
     requires dims { IsOk (dims_of widest (term_of expr.now) inputs.now.tensors) }
@@ -30,8 +31,8 @@ pub(crate) fn steps_of(alloc: Global, inputs: &Inputs, expr: &Expr) -> Result<Ve
     Ok(steps)
 }
 
-/// The steps of an operand go behind those that are there. What is left of it is an expression over
-/// the inputs and the tensors of all these, the number of one where it is needed whole.
+/// Appends the steps of an operand. Returns the rest: an expression over the inputs and the tensors
+/// of all steps. If the operand is needed `whole`, the rest is the number of one tensor.
 fn cut(
     alloc: Global,
     inputs: &Inputs,
@@ -50,14 +51,14 @@ fn cut(
             Ok(Step::new(Expr::Input(number), dims))
         }
         Node::Unary(operation, a) => {
-            let combining = combines(operation);
+            let combining = operation.combines();
             let (a, known) = cut(alloc, inputs, a, combining, steps)?.into_parts();
             let dims = dims_over(inputs, expr, &[known]);
             let node = Step::new(operation.over(alloc, a)?, dims);
             split_off(inputs, node, whole | combining, steps)
         }
         Node::Binary(operation, a, b) => {
-            let combining = combines_two(operation);
+            let combining = operation.combines();
             let (a, first) = cut(alloc, inputs, a, combining, steps)?.into_parts();
             let (b, second) = cut(alloc, inputs, b, combining, steps)?.into_parts();
             let dims = dims_over(inputs, expr, &[first, second]);
@@ -75,7 +76,7 @@ fn cut(
     }
 }
 
-/// A node that is a step goes behind the others, and the number of its tensor is left of it.
+/// Appends a node if it is a step. Returns the rest: the number of its tensor, or the node itself.
 fn split_off(
     inputs: &Inputs,
     node: Step,
@@ -94,7 +95,7 @@ fn split_off(
     Ok(left)
 }
 
-/// The number of the tensor that comes behind the inputs and the steps.
+/// Returns the number of the tensor that comes after the inputs and the steps.
 fn next_number(inputs: &Inputs, steps: &[Step]) -> u32
     ensures { result ≡ number_of (length inputs.now.tensors + length steps.now) }
 {
@@ -102,7 +103,7 @@ fn next_number(inputs: &Inputs, steps: &[Step]) -> u32
     (place % NUMBERS) as u32
 }
 
-/// The dims of an expression that has dims, from those of its operands.
+/// Returns the dims of an expression that has dims, given the dims of its operands.
 fn dims_over(inputs: &Inputs, expr: &Expr, operands: &[Dims]) -> Dims
     requires inputs { IsTrue (has_inputs (term_of expr.now) (length inputs.now.tensors)) }
     requires operands { operand_dims widest (term_of expr.now) inputs.now.tensors
@@ -116,27 +117,7 @@ fn dims_over(inputs: &Inputs, expr: &Expr, operands: &[Dims]) -> Dims
     dims
 }
 
-/// Whether an operation goes over its operand as a tensor of its own.
-fn combines(operation: Unary<'_>) -> bool
-    ensures { result ≡ combines (unary_at operation.entry) }
-{
-    match operation {
-        Unary::Each(_) | Unary::Constant(_) | Unary::Move(_) | Unary::Pad(_) => false,
-        Unary::Reduce(_, _) | Unary::Along(_, _) => true,
-    }
-}
-
-/// The same of two operands.
-fn combines_two(operation: Binary<'_>) -> bool
-    ensures { result ≡ combines_two (binary_at operation.entry) }
-{
-    match operation {
-        Binary::Pairwise(_) | Binary::Concat(_) => false,
-        Binary::Contract(_) | Binary::Convolve(_) | Binary::Take(_) => true,
-    }
-}
-
-/// Whether an expression is an input.
+/// Returns whether an expression is an input.
 fn is_input(expr: &Expr) -> bool
     ensures { result ≡ is_input (term_of expr.now) }
 {

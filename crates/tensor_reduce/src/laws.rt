@@ -1,4 +1,5 @@
-//! What holds of the definitions: why values may be worked out shard by shard.
+//! Why values may be evaluated shard by shard. Each function does nothing, and its contract is the
+//! fact. The README cites them by name.
 
 ghost use Rattle.std.specs.Prelude.{◌≡◌, ◌-◌, List, ℕ, ℤ, length, map};
 ghost use Rattle.std.specs.Int.{w64};
@@ -15,8 +16,8 @@ ghost use Rattle.tensor_ops.specs.Reducer.TheVariants.{Sum};
 ghost use Rattle.tensor_reduce.specs.Reducers.{alone};
 ghost use Rattle.tensor_reduce.specs.Shards.{shards_of, lists_of};
 
-/// Values may be combined in any grouping and in any order. The unit gives what the value alone
-/// gives: for a value of the `i64` range itself, but for All and Any whether it is true.
+/// Values may be combined in any grouping and in any order. The unit and a value give what the
+/// value alone gives: itself if it is in the `i64` range, but for All and Any whether it is true.
 pub fn reducers_combine_in_any_grouping()
     ensures grouping { (r : Reducer) (x y z : ℤ)
         → combine r (combine r x y) z ≡ combine r x (combine r y z) }
@@ -24,13 +25,13 @@ pub fn reducers_combine_in_any_grouping()
     ensures unit { (r : Reducer) (x : ℤ) → FitsSigned w64 x → combine r (unit r) x ≡ alone r x }
 {}
 
-/// Whatever the block, the shards meet each index list once, in order.
+/// The shards meet each index list once, in order, for any block.
 pub fn shards_meet_each_index_list_once()
     ensures { (inner block : ℕ)
         → lists_of (shards_of inner block) ≡ range_with_len 0 inner }
 {}
 
-/// What the shards give of a reduction's value, each from the unit, is the value, where it is
+/// What the shards contribute to a value of a reduction, each from the unit, is the value if it is
 /// combined in order from the unit.
 pub fn shards_give_the_reduction()
     ensures { (r : Reducer) (axes ds : List ℕ) (a : List ℕ → ℤ) (is : List ℕ) (block : ℕ)
@@ -39,7 +40,8 @@ pub fn shards_give_the_reduction()
         ≡ reduced r axes ds a is }
 {}
 
-/// The same of a contraction's value, whose shards are sums.
+/// What the shards contribute to a value of a contraction, each a sum, is the value if it is added
+/// up modulo 2^64.
 pub fn shards_give_the_contraction()
     ensures { (pairs : List (ℕ × ℕ)) (ds es : List ℕ) (a b : List ℕ → ℤ) (is : List ℕ)
         (block : ℕ)

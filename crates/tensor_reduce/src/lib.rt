@@ -1,23 +1,18 @@
-//! Expressions worked out in steps, as Eigen does with a reduction or a contraction inside of
-//! another expression: it is evaluated into a tensor of its own, once, and what is above it reads
-//! that.
+//! Plans: an expression cut into steps, as Eigen evaluates a reduction or a contraction inside
+//! another expression, and the steps run on the workers of a pool.
 //!
-//! A [`Plan`] has an expression's steps, children first: each reduction, contraction and
-//! convolution, each operand of these that isn't an input, and the root. A node that is several of
-//! these is one step, and operands that repeat are not shared: each has its own steps. The
-//! expression of a step names an input by its number, and the tensor of an earlier step by the
-//! number of inputs and that step's own place; it is one of these three, of such tensors, or has
-//! none of them.
+//! A [`Plan`] has the steps of an expression, children first. The steps are each reduction,
+//! contraction, convolution, take and operation along an axis, each operand of these that isn't an
+//! input, and the root. A node that is several of these is one step. Operands that occur twice are
+//! not shared. The expression of a step names an input by its number, and the tensor of an earlier
+//! step by the number of inputs plus the step's place.
 //!
-//! That the steps are these is proved, and that worked out one after the other each gives the
-//! tensor of its node, as the plain meaning of expressions has it, and the last that of the whole.
+//! [`run_plan`] runs a plan; a step may be fused into the step that reads it. A [`StepKernel`]
+//! computes the values of a step by ranges of places. [`Shards`] are ranges of the index lists that
+//! contribute to a value.
 //!
-//! [`run_plan`] works a plan out on the workers of a pool, and some steps together with the one that
-//! reads them. The values of a step are those that its [`StepKernel`] gives for ranges of its places.
-//!
-//! [`Shards`] are ranges of the index lists that a value of a reduction or a contraction is over.
-//! That they meet each of these once, in order, and that what they give apart, combined, is the
-//! value, are laws.
+//! Which nodes are steps is defined in specs/Steps, what a plan gives in specs/Plan: tensor_runner
+//! relies on both. Choices that only cost time are all made in `schedule`.
 #![tactic(auto)]
 
 mod cutting;

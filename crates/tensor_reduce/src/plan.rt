@@ -1,4 +1,5 @@
-//! A plan: the steps of an expression, in the order in which they are worked out.
+//! `Plan`: the steps of an expression, in the order in which they run. What they give is defined in
+//! specs/Plan.
 
 ghost use Rattle.std.specs.Prelude.{◌≡◌, ◌+◌, ◌<◌, ◌≤◌, ◌^◌, ◌++◌, length, map, IsTrue, IsOk, IfOk};
 ghost use Rattle.tensor_ops.specs.Legal.{widest};
@@ -13,7 +14,7 @@ use crate::step::Step;
 use std::alloc::{AllocError, Global};
 use tensor_ops::{Expr, Inputs};
 
-/// The steps of an expression, children first.
+/// The steps of an expression, children first. There is at least one.
 #[derive(Drop)]
 pub struct Plan {
     steps: Vec<Step>,
@@ -25,15 +26,15 @@ impl Plan {
     ghost use Rattle.tensor_reduce.specs.Plan.{steps_in, terms_in, dims_in, AreReady};
     ghost use Rattle.tensor_reduce.specs.Plan.{last_tensor};
 
-    /// The plan of an expression over these inputs, made in time linear in its nodes.
+    /// Returns the plan of an expression over inputs, in time linear in the number of nodes.
     ///
-    /// Numbers of tensors have 32 bits, so it can be worked out as long as there are at most
-    /// 4,294,967,295 inputs and steps together.
+    /// Tensors have numbers of 32 bits. So the plan can be run if there are at most 4,294,967,295
+    /// inputs and steps together.
     pub fn of(alloc: Global, expr: &Expr, inputs: &Inputs) -> Result<Plan, AllocError>
         requires inputs { IsTrue (has_inputs (term_of expr.now) (length inputs.now.tensors)) }
         requires dims { IsOk (dims_of inputs.now.bounds (term_of expr.now) inputs.now.tensors) }
 
-        // The steps are those of the definition, each with the dims of its node.
+        // The steps are what the definition says, each with the dims of its node.
         ensures terms { IfOk result (λ plan.
             terms_in (steps_in plan) ≡ steps_of (length inputs.now.tensors) (term_of expr.now)) }
         ensures dims { IfOk result (λ plan. dims_in (steps_in plan)
@@ -41,8 +42,8 @@ impl Plan {
             (step_nodes (term_of expr.now))) }
         ensures few { IfOk result (λ plan. length (steps_in plan) ≤ nodes_of (term_of expr.now)) }
 
-        // They can be worked out one after the other, and give their nodes' tensors: the root's is
-        // the last.
+        // They can be evaluated one after the other, and give the tensors of their nodes. The last
+        // one is the root's.
         ensures ready { IfOk result (λ plan.
             length inputs.now.tensors + length (steps_in plan) < 2 ^ 32
             → AreReady (steps_in plan) inputs.now.tensors) }
@@ -56,13 +57,13 @@ impl Plan {
             → last_tensor (worked_out (terms_in (steps_in plan)) inputs.now.tensors)
             ≡ tensor_of (term_of expr.now) inputs.now.tensors) }
     {
-        // Called for its clause `limit`: no inputs allow larger dims than there may be.
+        // Called for its clause `limit`: the inputs' bounds are bounds of dims.
         let _limit = inputs.bounds();
         let steps = steps_of(alloc, inputs, expr)?;
         Ok(Plan { steps })
     }
 
-    /// The steps, in order.
+    /// Returns the steps, in order.
     pub fn steps(&self) -> &[Step]
         ensures { result.now ≡ steps_in self.now }
     {

@@ -1,4 +1,5 @@
-//! Running a plan: its steps are worked out one after the other, each by its schedule.
+//! Runs a plan: stage by stage, each by its schedule. That no choice of `schedule` changes a tensor
+//! is proved here by way of specs/private/Stage and specs/private/Held.
 
 pub(crate) mod batch;
 pub(crate) mod combined;
@@ -31,25 +32,29 @@ use std::sync::Wait;
 use std::thread::Threads;
 use tensor_ops::{Inputs, Tensor};
 
-/// The tensor of a plan's last step. The steps are worked out one after the other, each by blocks of
-/// its places on workers of a pool that the setup describes: as many as are worth their start, by
-/// what the step costs. Where that is one, the calling thread works it out, and no pool is opened.
-/// On several, more than 1,048,576 values go batch by batch, each on a pool of its own.
+/// Returns the tensor of a plan's last step. The steps run one after the other. Each goes by blocks
+/// of its places over workers of a pool that `setup` describes: as many workers as save time, given
+/// what the step costs. If that is one worker, the calling thread evaluates the step and no pool is
+/// opened. On several workers, more than 1,048,576 values go batch by batch, with a pool for each.
 ///
-/// A reduction or a contraction of at most 64 values is worked out in shards, each a leaf of its
-/// own. An operand that an inner product reads alone, or a reduction over four index lists a value or
-/// more, is fused into it and no tensor of its own: its values are worked out a thousand at a time,
-/// as they are combined. So is one that a contraction of more values reads alone, where it
-/// broadcasts, slices, shuffles, chips or strides an input or the tensor of an earlier step, and
-/// both operands have four rows or more: its values are taken where they lie; and so is one that
-/// isn't worth a second worker, which the calling thread works out into one list. A contraction
-/// that a reduction of its first axes reads alone is fused into it too: what a leaf of it gives is
-/// combined as it is there.
+/// A reduction or a contraction of at most 64 values goes in shards, each a leaf of its own, if it
+/// drops or pairs the first axes.
+///
+/// An operand that no other step reads may be fused into its reader, and is then no tensor:
+/// - An operand of more than 4,096 values that combines nothing is fused into an inner product, or
+///   into a reduction over at least four index lists a value, if the values that are combined lie
+///   side by side or can be read in any order. They are computed a thousand at a time.
+/// - An operand of more than 4,096 values is fused into a contraction of more than 64 values, with
+///   four rows or more in both operands, in two cases. If it only broadcasts, slices, shuffles,
+///   chips or strides a tensor, this is read where it lies. If it combines nothing and isn't worth
+///   a second worker, the calling thread computes it as one list.
+/// - A contraction is fused into a reduction of its first axes. The values of a leaf are combined
+///   right after they are computed.
 ///
 /// # Errors
 ///
-/// The first by number: [`ForFault::BadBlock`] for a block of 0, [`ForFault::Pool`] for a setup that
-/// makes no pool, then want of memory.
+/// The first by number: [`ForFault::BadBlock`] for a block of 0, [`ForFault::Pool`] for a setup
+/// that makes no pool, then an allocation that failed.
 pub fn run_plan<RT: Threads + Wait + Sync>(
     rt: &RT,
     alloc: Global,
@@ -86,7 +91,7 @@ pub fn run_plan<RT: Threads + Wait + Sync>(
     work_out(&workers, plan.steps(), inputs)
 }
 
-/// Works out steps, of which there is one at least.
+/// Runs steps, of which there is at least one.
 fn work_out<RT: Threads + Wait + Sync>(
     workers: &Workers<'_, RT>,
     steps: &[Step],
@@ -110,7 +115,7 @@ fn work_out<RT: Threads + Wait + Sync>(
     Ok(last)
 }
 
-/// Works out the next stage of the steps left. Answers how many are done.
+/// Runs the next stage of the steps left. Returns how many steps are done then.
 fn advance<RT: Threads + Wait + Sync>(
     workers: &Workers<'_, RT>,
     steps: &[Step],

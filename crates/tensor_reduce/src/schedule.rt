@@ -1,11 +1,11 @@
-//! Schedules: how the tensor of a step is worked out, and which steps before it are fused into it.
-//! All that is chosen for the sake of time is chosen here.
+//! Schedules: how the tensor of a step is evaluated, and which steps before it are fused into it.
+//! All choices that only change times are made here; the proofs hold for each of them.
 //!
-//! A step is worked out in shards of the index lists that each of its values is over, where it has
-//! few values, or else by ranges of its places. A step before it is fused into it where its values
-//! are better worked out as they are read, by one thread, or taken where a strided view has them, than
-//! put into a tensor of their own; so is a contraction that a reduction combines leaf by leaf. As many
-//! workers take part as are worth their start, by what all of it costs.
+//! A step with few values is evaluated in shards of the index lists that contribute to each value,
+//! others by ranges of places. A step is fused into its reader if that is faster than a tensor of
+//! its own: its values are computed as they are read, or by one thread beforehand, or are read
+//! along a strided view. A contraction is fused into a reduction leaf by leaf. As many workers take
+//! part as save time, given the cost of all of it.
 
 pub(crate) mod cost;
 pub(crate) mod fusible;
@@ -18,9 +18,11 @@ pub(crate) mod sharding;
 pub(crate) mod stage;
 pub(crate) mod worth;
 
-ghost use Rattle.std.specs.Prelude.{IfSome, IsTrue};
+ghost use Rattle.std.specs.Prelude.{◌≡◌, IfSome, IsTrue};
 ghost use Rattle.tensor_ops.specs.Parts.{has_parts};
+ghost use Rattle.tensor_ops.specs.Tree.{term_of};
 ghost use Rattle.tensor_reduce.specs.Plan.{term_of_step};
+ghost use Rattle.tensor_reduce.specs.private.Schedules.{is_cumulative};
 
 use crate::schedule::fusible::{
     SHORT, is_fusible, is_fusing_reduction, is_inner_product, is_strided_view,
@@ -31,35 +33,35 @@ use crate::schedule::sharding::{FEW_VALUES, Sharding, has_contiguous_parts};
 use crate::step::Step;
 use tensor_ops::{Binary, Expr, Node, TILED_ROWS, Unary};
 
-/// From so many rows of both operands on a contraction takes their values wherever they lie, where
-/// with fewer it goes over rows that lie side by side.
+/// The fewest rows of both operands for which a contraction reads values wherever they lie. With
+/// fewer rows it goes over rows that lie side by side.
 const MANY_ROWS: u64 = TILED_ROWS as u64;
 
-/// Over how many index lists a value is at least that is worked out of values as they come, where
-/// there are many of them. A shuffled operand is read in rows of as many places.
+/// The fewest index lists of each value for which a reduction of many values reads its operand as
+/// it is computed. A shuffled operand is read in rows of this length.
 const LONG_RUN: u64 = 4;
 
 /// How the values of a step are divided among workers.
 #[derive(Clone, Copy, Drop)]
 pub(crate) enum Schedule {
-    /// In shards of the index lists that each value is over.
+    /// In shards of the index lists that contribute to each value.
     Sharded(Sharding),
-    /// Among so many workers by ranges of places, so many of them a leaf.
+    /// By ranges of places: the number of workers, and the number of places of a leaf.
     Ranged(u32, u64),
 }
 
-/// A step, and how long one thread takes for it.
+/// A step, and its time on one thread in nanoseconds.
 #[derive(Clone, Copy, Drop)]
 pub(crate) struct Costed<'a> {
     pub(crate) step: &'a Step,
     pub(crate) cost: u64,
 }
 
-/// A step that may be fused into one behind it.
+/// A step that may be fused into a later one.
 #[derive(Clone, Copy, Drop)]
 pub(crate) struct Operand<'a> {
     pub(crate) costed: Costed<'a>,
-    /// The number by which its reader names its tensor.
+    /// The number of the step's tensor.
     pub(crate) number: u64,
 }
 
@@ -69,7 +71,7 @@ impl Costed<'_> {
     ghost use Rattle.tensor_ops.specs.Legal.{most_elements};
     ghost use Rattle.tensor_reduce.specs.Plan.{dims_of_step};
 
-    /// How many values it has.
+    /// Returns the number of values of the step's tensor.
     fn size(self) -> u64
         ensures value { result ≡ size_of (dims_of_step self.entry.step.now) }
         ensures small { result ≤ most_elements }
@@ -77,25 +79,30 @@ impl Costed<'_> {
         self.step.dims().size()
     }
 
-    /// How long one thread takes for it and a step that is fused into it.
+    /// Returns the time on one thread for this step and one that is fused into it.
     fn cost_with(self, operand: Costed<'_>) -> u64 {
         self.cost.saturating_add(operand.cost)
     }
 }
 
 impl Schedule {
-    ghost use Rattle.tensor_reduce.specs.private.Schedules.{IsScheduleFor, IsFusingFor};
+    ghost use Rattle.tensor_ops.specs.Index.{size_of};
+    ghost use Rattle.tensor_reduce.specs.Plan.{dims_of_step};
+    ghost use Rattle.tensor_reduce.specs.private.Schedules.{IsScheduleFor, IsFusingFor, IsOneLeaf};
 
-    /// A step by itself, which combines values of so many places: in shards of a block where it has
-    /// few values and the parts of each lie side by side, and else by whole columns of so many rows
-    /// where it is a contraction. A range of a cumulative one would read all that is before it.
+    /// Returns the schedule of a step by itself. It goes in shards of a block if it has few values
+    /// and the parts of each lie side by side. Or else it goes by ranges of places, a contraction
+    /// by whole columns of `rows` rows. `places` is the size of the larger operand. A cumulative
+    /// operation has one worker, since each range of it would read all earlier values.
     pub(crate) fn of_step(
         step: Costed<'_>,
         places: u64,
         rows: Option<u64>,
         grain: Grain,
     ) -> Schedule
-        ensures { IsScheduleFor result (term_of_step step.entry.step.now) }
+        ensures fits { IsScheduleFor result (term_of_step step.entry.step.now) }
+        ensures one { IsTrue (is_cumulative (term_of_step step.entry.step.now))
+            → IsOneLeaf (size_of (dims_of_step step.entry.step.now)) result }
     {
         let values = step.size();
         if is_cumulative(step.step.expr()) {
@@ -117,8 +124,9 @@ impl Schedule {
         }
     }
 
-    /// A step with one operand fused into it, whose values may be worked out as fast in any order,
-    /// if that is better than a tensor of the operand.
+    /// Returns the schedule of a step with one operand fused into it, if that is faster than a
+    /// tensor of the operand. `in_any_order` says that the operand's values can be computed as fast
+    /// in any order.
     pub(crate) fn of_fused(
         operand: Operand<'_>,
         in_any_order: bool,
@@ -144,8 +152,9 @@ impl Schedule {
         Schedule::of_contraction(operand, reader, grain)
     }
 
-    /// A step with both its operands fused into it: an inner product of values as they are worked
-    /// out, or a contraction of two that it takes better by themselves, though one has few values.
+    /// Returns the schedule of a step with both operands fused into it, if that is faster. The step
+    /// is an inner product of values as they are computed, or a contraction that is as fast without
+    /// tensors of its operands, one of which may have few values.
     pub(crate) fn of_both_fused(
         first: Operand<'_>,
         second: Costed<'_>,
@@ -168,9 +177,9 @@ impl Schedule {
         Schedule::of_contraction(first, reader, grain)
     }
 
-    /// A reduction whose operand's values are each worked out once: few values in shards of a block,
-    /// and many each in one where no fewer workers have something to do than if the operand were a
-    /// tensor.
+    /// Returns the schedule of a reduction that computes each value of its operand once. Few values
+    /// go in shards of a block. Many values have one shard each, if as many workers have something
+    /// to do as with a tensor of the operand.
     fn of_reduction(operand: Costed<'_>, reader: Costed<'_>, grain: Grain) -> Option<Schedule>
         requires { IsTrue (has_parts (term_of_step reader.step.now)) }
         ensures { IfSome result (λ schedule.
@@ -192,8 +201,9 @@ impl Schedule {
         Some(Schedule::Sharded(Sharding::by_values(leaf, grain)))
     }
 
-    /// A reduction of the values of a contraction whose own schedule this is, if it combines them in
-    /// the order in which the leaves have them: by as many of them at a time.
+    /// Returns the schedule of a reduction of a contraction whose schedule this is, if it combines
+    /// values in the order in which the leaves have them. A leaf then has as many values of the
+    /// contraction.
     pub(crate) fn of_reduced(self, contraction: &Step, reduction: &Step) -> Option<Schedule>
         ensures { IfSome result (λ schedule. IsFusingFor schedule (term_of_step reduction.now)) }
     {
@@ -210,9 +220,9 @@ impl Schedule {
         Some(Schedule::Sharded(Sharding::by_places(workers, leaf, run)))
     }
 
-    /// A contraction of many values and of operands of many rows, of which this operand is one. An
-    /// operand has a row for each index list of its axes that aren't paired. One that is worked out
-    /// is so by one thread beforehand.
+    /// Returns the schedule of a contraction of many values that reads this operand without a
+    /// tensor, if both operands have many rows. An operand has a row for each index list of its
+    /// axes that aren't paired. An operand that isn't a view is computed by one thread beforehand.
     fn of_contraction(operand: Operand<'_>, reader: Costed<'_>, grain: Grain) -> Option<Schedule>
         ensures { IfSome result (λ schedule.
             IsFusingFor schedule (term_of_step reader.entry.step.now)) }
@@ -236,8 +246,8 @@ impl Schedule {
     }
 }
 
-/// Whether a contraction takes a step's values better by itself than from a tensor: where they lie, or
-/// worked out by one thread, as soon as by all workers.
+/// Returns whether a contraction reads a step's values as fast without a tensor: along a strided
+/// view, or computed by one thread if no second worker saves time.
 fn is_taken(costed: Costed<'_>, grain: Grain) -> bool {
     if is_strided_view(costed.step.expr()) {
         return true;
@@ -245,8 +255,10 @@ fn is_taken(costed: Costed<'_>, grain: Grain) -> bool {
     is_fusible(costed.step) && grain.for_values(costed.size(), costed.cost).workers <= 1
 }
 
-/// Whether each value of an expression is one before it along an axis, and what stands there.
-fn is_cumulative(expr: &Expr) -> bool {
+/// Returns whether each value of an expression combines the value before it along an axis.
+fn is_cumulative(expr: &Expr) -> bool
+    ensures { result ≡ is_cumulative (term_of expr.now) }
+{
     match expr.node() {
         Node::Unary(Unary::Along(operation, _), _) => operation.is_cumulative(),
         _ => false,

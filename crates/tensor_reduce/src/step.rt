@@ -1,4 +1,4 @@
-//! The steps of a plan.
+//! `Step`: one step of a plan.
 
 ghost use Rattle.std.specs.Prelude.{◌≡◌};
 ghost use Rattle.tensor_ops.specs.Tree.{term_of};
@@ -6,8 +6,8 @@ ghost use Rattle.tensor_ops.specs.Tree.{term_of};
 use std::alloc::Global;
 use tensor_ops::{Dims, Expr};
 
-/// A part of an expression that is worked out as a tensor of its own, over the inputs and the
-/// tensors of the steps before it.
+/// A part of an expression that becomes a tensor of its own, over the inputs and the tensors of
+/// earlier steps.
 #[derive(Drop)]
 pub struct Step {
     expr: Expr,
@@ -17,7 +17,7 @@ pub struct Step {
 impl Step {
     ghost use Rattle.tensor_reduce.specs.Plan.{term_of_step, dims_of_step};
 
-    /// A step of this expression, which has these dims.
+    /// Returns a step with the given expression and dims.
     pub(crate) fn new(expr: Expr, dims: Dims) -> Step
         ensures term { term_of_step result ≡ term_of expr }
         ensures dims { dims_of_step result ≡ dims }
@@ -25,14 +25,14 @@ impl Step {
         Step { expr, dims }
     }
 
-    /// The expression, over the inputs and the tensors of the steps before.
+    /// Returns the expression, over the inputs and the tensors of earlier steps.
     pub fn expr(&self) -> &Expr
         ensures { term_of result.now ≡ term_of_step self.now }
     {
         &self.expr
     }
 
-    /// Both parts.
+    /// Returns the expression and the dims.
     pub(crate) fn into_parts(self) -> (Expr, Dims)
         ensures expr { term_of result.0 ≡ term_of_step self }
         ensures dims { result.1 ≡ dims_of_step self }
@@ -40,7 +40,7 @@ impl Step {
         (self.expr, self.dims)
     }
 
-    /// The dims of its tensor.
+    /// Returns the dims of the step's tensor.
     pub fn dims(&self) -> &Dims
         ensures { result.now ≡ dims_of_step self.now }
     {

@@ -1,5 +1,6 @@
-//! Answers one request of standard input on standard output, as `tensor_runner` says. It takes no
-//! arguments and ignores any.
+//! The program of one request: it reads a request text from standard input, and writes the line
+//! that answers it to standard output. Arguments are ignored. All it does is decided by `serve` of
+//! tensor_runner; docs/REQUEST.md and docs/man/tensor_run say what users see.
 #![tactic(auto)]
 
 use std::io;

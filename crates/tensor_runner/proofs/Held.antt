@@ -30,7 +30,7 @@ module _ (t : Term) (held all : List Contents) (has : IsOk (dims_of widest t all
   tensor_of-held : tensor_of t held ≡ tensor_of t all
   tensor_of-held = tensor_of-same t t held all same-held
 
--- the first binding left is worked out over what is held
+-- the first binding left is evaluated over what is held
 module _ {bounds : Bounds} {b : Binding} {left : List Binding} {last : Term} {held whole all : List Contents}
     (are : AreHeldFor (b ∷ left) last held all) (first : AreLeft bounds (b ∷ left) last whole all) where
   read-first : (n : ℕ) → reads n (term_under b) ≡ true → input_of held n ≡ input_of all n

@@ -29,7 +29,7 @@ request_of-take n text more = elim (dec_le n (length text)) [
 answer_of-take : (n : ℕ) (text : List ℕ) → most_bytes < n → answer_of (take n text) ≡ answer_of text
 answer_of-take n text more = ap answer_from (request_of-take n text more)
 
--- a text of which a front isn't too long either
+-- a text isn't too long if its prefix isn't
 pub short-take : (n : ℕ) (text : List ℕ) → most_bytes < n → length (take n text) ≤ most_bytes → length text ≤ most_bytes
 short-take n text more short = omega (arith, short, length-take n text)
 
@@ -37,7 +37,7 @@ pub IsAnswerTo-take : (n : ℕ) (text : List ℕ) (a : Answer) → most_bytes < 
 IsAnswerTo-take n text a more (inl own) = inl (own ∙ answer_of-take n text more)
 IsAnswerTo-take n text a more (inr memory) = inr (memory.0, short-take n text more memory.1)
 
--- a text of which so much was counted
+-- a text of which only the length was kept
 pub IsAnswerTo-counted : (text : List ℕ) (count : ℕ) → count ≡ length (take most_reads text) → most_bytes < count → IsAnswerTo text (fault TooLong)
 IsAnswerTo-counted text count is long =
     inl (sym (ap answer_from (request_of-long text (omega (arith, is, long, length-take most_reads text)))))

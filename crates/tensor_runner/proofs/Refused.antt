@@ -1,5 +1,6 @@
 -- The line that answers a text, where there are limits.
-use Rattle.std.proofs.Common.{◌≡◌, ◌⊎◌, ℕ, ◌<◌, ◌≤◌, List, Option, Some, None, Result, Ok, Err, length, take}
+use Rattle.std.specs.Prelude.{MatchBool}
+use Rattle.std.proofs.Common.{◌≡◌, ◌⊎◌, ℕ, ◌<◌, ◌≤◌, Bool, true, false, if◌then◌else◌, List, Option, Some, None, Result, Ok, Err, length, take}
 use Rattle.std.proofs.Common.{refl, ap, sym, subst, ◌∙◌, inl, inr}
 use Rattle.std.proofs.Math.Decide.{dec_le}
 use Rattle.std.proofs.Math.Nat.{lt_of_not-le}
@@ -12,8 +13,8 @@ use Rattle.expr_reader.specs.declared.request.Request.{Request}
 use Rattle.expr_reader.specs.declared.fault.Fault.TheVariants.{TooLong, NoMemory}
 use Rattle.tensor_runner.specs.Answer.{tensor, fault, answer_of, answer_from, line_of, tensor_line, fault_line}
 use Rattle.tensor_runner.specs.Journal.{any_line, Says, steps_in, HasSteps}
-use Rattle.tensor_runner.specs.Limited.{over_limits, refusal, line_unless, limit_line, IsLineWithin}
-use Rattle.tensor_runner.specs.Line.{IsFaultOf, IsFaultLine, IsLineUnder}
+use Rattle.tensor_runner.specs.Limited.{over_limits, refusal, line_unless, line_read, limit_line, is_longer, IsLineWithin}
+use Rattle.tensor_runner.specs.Line.{IsFaultOf, IsFaultLine, IsLineRead, SaysTooLong, IsLineUnder, IsLineFrom}
 use Rattle.tensor_runner.specs.Work.{steps_of}
 use Rattle.tensor_runner.specs.declared.answer.Line.{Line}
 use Rattle.tensor_runner.specs.declared.journal.AnyFault.{AnyFault}
@@ -23,8 +24,8 @@ use Rattle.tensor_runner.specs.declared.limits.Limits.{Limits}
 use Rattle.tensor_runner.specs.declared.status.Status.TheVariants as status
 use Rattle.tensor_runner.proofs.Lines.{request_of-long, request_of-take, short-take, IsAnswerTo-take}
 
--- a text that is known by its front
-within-take : (limits : Limits) (n : ℕ) (text line : List ℕ) → most_bytes < n → IsLineWithin limits (take n text) line → IsLineWithin limits text line
+-- a text that is known by its prefix
+within-take : (limits : Limits) (n : ℕ) (text line : List ℕ) → most_bytes < n → IsLineRead limits (take n text) line → IsLineRead limits text line
 within-take limits n text line more (inl own) =
     inl (own ∙ ap (λ (r : Result Asked Fault). line_unless (refusal limits r) (line_of (answer_from r))) (request_of-take n text more))
 within-take limits n text line more (inr memory) = inr (memory.0, short-take n text more memory.1)
@@ -52,7 +53,7 @@ fault-line : (limits : Limits) (r : Result Asked Fault) (f : Fault) → fault f 
 fault-line limits (Ok a) f is = absurd (fault_is_no_tensor f (asked_tensor a) is)
 fault-line limits (Err g) f is = ap line_of is
 
-within-fault : (limits : Limits) (text : List ℕ) (f : Fault) (line : List ℕ) → IsFaultOf text f → line ≡ fault_line f → IsLineWithin limits text line
+within-fault : (limits : Limits) (text : List ℕ) (f : Fault) (line : List ℕ) → IsFaultOf text f → line ≡ fault_line f → IsLineRead limits text line
 within-fault limits text f line (inl own) is = inl (is ∙ fault-line limits (request_of text) f own)
 within-fault limits text f line (inr memory) is = inr (is ∙ ap line_of memory.0, memory.1)
 
@@ -132,7 +133,7 @@ short-asked text a asks = elim (dec_le (length text) most_bytes) [
 IsFaultOf-memory : (text : List ℕ) (a : Asked) → request_of text ≡ Ok a → IsFaultOf text NoMemory
 IsFaultOf-memory text a asks = inr (refl, short-asked text a asks)
 
--- what wants memory isn't told to be too long
+-- a text answered by `NoMemory` isn't too long
 memory_is_not_long : (f : Fault) (r : Result Request Fault) → r ≡ Err f → f ≡ NoMemory → r ≡ Err TooLong → ⊥
 memory_is_not_long f r is memory long = cc
 
@@ -144,8 +145,33 @@ IsFaultOf-read text f r is long (inl memory) = elim (dec_le (length text) most_b
   | no above ↦ absurd (memory_is_not_long f r is memory (long (lt_of_not-le above)))
 ]
 
--- the line of want of memory for a request's tensor
+-- the line of `NoMemory` for a request whose tensor found no memory
 pub IsLineUnder-memory : (limits : Limits) (text : List ℕ) (a : Asked) (line : Line) → request_of text ≡ Ok a → IsFaultLine NoMemory line
     → line.status ≡ status.Fault → line.steps ≡ Some (steps_of a) → IsLineUnder limits text line
 IsLineUnder-memory limits text a line asks is status steps =
     IsLineUnder-told limits text NoMemory line (IsFaultOf-memory text a asks) is status (inl (steps ∙ sym (ap steps_in asks)))
+
+-- a text that is longer than the limit of bytes, or isn't
+pub IsLineFrom-long : (limits : Limits) (text : List ℕ) (line : Line) → is_longer limits text ≡ true → cow_slice_items line.bytes ≡ fault_line TooLong
+    → line.fault ≡ Some (any.Request TooLong) → line.steps ≡ None → IsLineFrom limits text line
+IsLineFrom-long limits text line long bytes says none =
+    subst (λ (b : Bool). MatchBool b (SaysTooLong line) (IsLineUnder limits text line)) (sym long)
+    (record { says = record { bytes = bytes; fault = says }; none = none })
+
+pub IsLineFrom-read : (limits : Limits) (text : List ℕ) (line : Line) → is_longer limits text ≡ false → IsLineUnder limits text line → IsLineFrom limits text line
+IsLineFrom-read limits text line short is = subst (λ (b : Bool). MatchBool b (SaysTooLong line) (IsLineUnder limits text line)) (sym short) is
+
+line_by : Limits → List ℕ → Bool → List ℕ
+line_by limits text long = if long then fault_line TooLong else line_read limits text
+
+within_by : (limits : Limits) (text : List ℕ) (line : Line) (long : Bool) → is_longer limits text ≡ long → MatchBool long (SaysTooLong line) (IsLineUnder limits text line)
+    → IsLineWithin limits text (cow_slice_items line.bytes)
+unfolding line_by
+within_by limits text line true long is = inl (is.says.bytes ∙ sym (ap (line_by limits text) long))
+within_by limits text line false short is = elim is.within [
+  | inl own ↦ inl (own ∙ sym (ap (line_by limits text) short))
+  | inr memory ↦ inr (memory.0, memory.1, short)
+]
+
+pub IsLineWithin-from : (limits : Limits) (text : List ℕ) (line : Line) → IsLineFrom limits text line → IsLineWithin limits text (cow_slice_items line.bytes)
+IsLineWithin-from limits text line is = within_by limits text line (is_longer limits text) refl is

@@ -12,7 +12,7 @@ use Rattle.tensor_runner.specs.declared.kept.KeptText.{KeptText}
 use Rattle.tensor_runner.specs.declared.kept.KeptText.TheVariants.{Text, Counted}
 use Rattle.std.proofs.lemmas.List.{append-nil, take_all, take_at, drop_all, drop_at, length-take, length-append}
 
--- at most so many bytes behind those that were taken
+-- at most `most` bytes behind the bytes that were taken
 pub TakesAtMost-more : (a b c : Option (List ℕ)) (xs : List ℕ) (n : ℕ) → Consumes a b xs → TakesAtMost (n - length xs) b c → length xs ≤ n
     → TakesAtMost n a c
 TakesAtMost-more a b c xs n before more within = record {
@@ -43,7 +43,7 @@ HasTaken-end (Some all) (Some bs) xs kept h end short is =
       left = ap Some (end ∙ sym (ap (λ (l : List ℕ). drop most_reads l) whole ∙ drop_all most_reads xs short));
     }
 
--- the front of what there was
+-- the prefix of what there was
 HasTaken-front : (a b : Option (List ℕ)) (xs : List ℕ) (kept : KeptText) → Consumes a b xs → length xs ≡ most_reads → IsKept xs kept
     → IfSome a (λ all. IsFrontOf all kept b)
 HasTaken-front None b xs kept h full is = tt
@@ -97,7 +97,7 @@ HasTaken-full a b c old new count t more full =
     let all = HasTaken-more a b c old new count t more in
     HasTaken-front a c all.bytes new all.consumed (sym (HasTaken-len a c new all) ∙ full) all.kept_of
 
--- at most so many were taken
+-- at most `most_reads` bytes were taken
 pub HasTaken-at_most : (a b c : Option (List ℕ)) (old : KeptText) → HasTaken a b old → TakesAtMost (most_reads - kept_len old) b c
     → TakesAtMost most_reads a c
 HasTaken-at_most a b c old t more =

@@ -1,4 +1,4 @@
--- What a program over lines ends with that has limits.
+-- What a program ends with that answers lines under limits.
 use Rattle.std.specs.Prelude.{ℕ, List, Option}
 use Rattle.message_server.specs.Ending.{EndsServing}
 use Rattle.message_server.specs.Streams.{HasFailed}
@@ -7,8 +7,8 @@ use Rattle.tensor_runner.specs.Limited.{AnswersLinesWithin, BreaksOffWithin, Cut
 use Rattle.tensor_runner.specs.Lines.{lines_of}
 use Rattle.tensor_runner.specs.declared.limits.Limits.{Limits}
 
--- all lines were answered, or a read failed, or a write, by the numbers of failures of reads and of
--- writes, before and after
+-- the program ends in one of three ways: all lines were answered, a read failed, or a write failed.
+-- `reads` and `writes` are the numbers of failures of each stream, before and after.
 abbrev pub EndsWithin : Limits
     → Option (List ℕ) → Option (List ℕ) → Option (List ℕ) → Option (List ℕ)
     → ℕ × ℕ → ℕ × ℕ → Ending → Type 0

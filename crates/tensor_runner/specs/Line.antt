@@ -1,5 +1,7 @@
--- Lines on the way.
-use Rattle.std.specs.Prelude.{◌≡◌, ◌≢◌, ◌⊎◌, ℕ, ℤ, List, [], ◌∷◌, ◌++◌, length, map, Option, Some, None}
+-- The line that answers a text, before it is written.
+use Rattle.std.specs.Prelude.{◌≡◌, ◌≢◌, ◌⊎◌, ◌≤◌, ℕ, ℤ, List, [], ◌∷◌, ◌++◌, length, map}
+use Rattle.std.specs.Prelude.{Option, Some, None, MatchBool}
+use Rattle.expr_reader.specs.Limits.{most_bytes}
 use Rattle.std.specs.Cow.{cow_slice_items}
 use Rattle.serde_json.specs.Data.{Data, Items, number}
 use Rattle.serde_json.specs.View.{items_of}
@@ -8,7 +10,7 @@ use Rattle.expr_reader.specs.Request.{request_of}
 use Rattle.tensor_runner.specs.Answer.{Answer, fault, line_of, fault_line, status_of}
 use Rattle.tensor_runner.specs.Answer.{IsAnswerTo, numbers_text}
 use Rattle.tensor_runner.specs.Journal.{Says, HasSteps}
-use Rattle.tensor_runner.specs.Limited.{refusal, IsLineWithin}
+use Rattle.tensor_runner.specs.Limited.{refusal, is_longer, line_read}
 use Rattle.tensor_runner.specs.Run.{IsLeft}
 use Rattle.expr_reader.specs.declared.fault.Fault.{Fault}
 use Rattle.expr_reader.specs.declared.fault.Fault.TheVariants.{TooLong, NoMemory}
@@ -21,7 +23,7 @@ use Rattle.tensor_runner.specs.declared.limits.Limits.{Limits}
 abbrev pub integer : ℤ → Data
 integer x = number (of_integer x)
 
--- numbers in brackets, with commas between
+-- numbers in brackets, with commas between them
 abbrev pub bracketed : List ℤ → List ℕ
 bracketed xs = 91 ∷ (numbers_text xs ++ 93 ∷ [])
 
@@ -38,11 +40,11 @@ pub record IsFaultLine (f : Fault) (line : Line) : Type 0 where
   pub bytes : cow_slice_items line.bytes ≡ fault_line f
   pub fault : line.fault ≡ Some (Request f)
 
--- the line of this fault, or of want of memory, but for a text that is too long
+-- the line says this fault, or it says `NoMemory` and the fault is not `TooLong`
 abbrev pub IsRefusal : Fault → Line → Type 0
 IsRefusal f line = IsFaultLine f line ⊎ (IsFaultLine NoMemory line × (f ≢ TooLong))
 
--- what is noted of a text of so many bytes and of its line
+-- the journal's note on a text of `bytes` bytes that this line answers
 abbrev pub entry_of : ℕ → Line → Entry
 entry_of bytes line =
     record {
@@ -52,22 +54,37 @@ entry_of bytes line =
       steps = line.steps;
     }
 
--- the line of an answer to the text, with its status
+-- the line has the bytes and the status of an answer to the text
 pub record IsLineFor (text : List ℕ) (line : Line) : Type 0 where
   pub answer : Answer
   pub answers : IsAnswerTo text answer
   pub written : cow_slice_items line.bytes ≡ line_of answer
   pub status : line.status ≡ status_of answer
 
--- the line that answers the text under limits; where its request is over none, it is such a line;
--- and its fault and steps are told
+-- the line that answers a text which may be so long, or the line of `NoMemory`
+abbrev pub IsLineRead : Limits → List ℕ → List ℕ → Type 0
+IsLineRead limits text line =
+    (line ≡ line_read limits text) ⊎ ((line ≡ fault_line NoMemory) × (length text ≤ most_bytes))
+
+-- the line answers a text which may be so long, and its fault and steps are those of the answer. If
+-- the request is over no limit, the line is one of an answer to the text.
 pub record IsLineUnder (limits : Limits) (text : List ℕ) (line : Line) : Type 0 where
-  pub within : IsLineWithin limits text (cow_slice_items line.bytes)
+  pub within : IsLineRead limits text (cow_slice_items line.bytes)
   pub own : refusal limits (request_of text) ≡ None → IsLineFor text line
   pub says : Says (cow_slice_items line.bytes) line.fault
   pub has : HasSteps (request_of text) line.fault line.steps
 
--- the line of an answer to a text that was read so far
+-- the line says that the text is longer than the limit of bytes, and has no steps
+pub record SaysTooLong (line : Line) : Type 0 where
+  pub says : IsFaultLine TooLong line
+  pub none : line.steps ≡ None
+
+-- the line answers the text under limits
+abbrev pub IsLineFrom : Limits → List ℕ → Line → Type 0
+IsLineFrom limits text line =
+    MatchBool (is_longer limits text) (SaysTooLong line) (IsLineUnder limits text line)
+
+-- the line answers the text, and the rest of the stream is left
 pub record IsLineOfRead (text : List ℕ) (remaining : Option (List ℕ)) (line : Line) : Type 0 where
   pub answer : IsLineFor text line
   pub left : IsLeft text remaining

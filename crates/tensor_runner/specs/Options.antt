@@ -1,4 +1,4 @@
--- What the words behind a program's name ask for: options, applied in the order in which they stand.
+-- What the words after a program's name ask for. They are options, applied in their order.
 use Rattle.std.specs.Prelude.{ℕ, ◌+◌, ◌^◌, Bool, if◌then◌else◌, ◌==◌, ◌||◌, ◌&&◌, nat_lt}
 use Rattle.std.specs.Prelude.{true, false, bytes_eq, codes}
 use Rattle.std.specs.Prelude.{List, [], ◌∷◌, length, drop, map, fold, position}
@@ -19,7 +19,7 @@ use Rattle.tensor_runner.specs.declared.options.ServeOptions.{ServeOptions}
 use Rattle.tensor_runner.specs.declared.options.Setting.{Setting}
 use Rattle.tensor_runner.specs.declared.options.Setting.TheVariants as set
 
--- an option as words write it: its name, and its value if it has one
+-- an option as it was written: its name, and its value if it has one
 pub record Written : Type 0 where
   pub name : List ℕ
   pub value : Option (List ℕ)
@@ -29,6 +29,7 @@ pub record Refusal : Type 0 where
   pub name : List ℕ
   pub fault : OptionFault
 
+-- whether a byte is `=`
 abbrev pub is_equals_sign : ℕ → Bool
 is_equals_sign c = c == 61
 
@@ -41,9 +42,10 @@ option_in word = record {
 
 -- whether the option of this name takes a number
 abbrev pub takes_number : List ℕ → Bool
-takes_number name = bytes_eq name (codes "--most-workers") || bytes_eq name (codes "--most-steps")
+takes_number name = bytes_eq name (codes "--most-workers")
+    || bytes_eq name (codes "--most-steps") || bytes_eq name (codes "--most-bytes")
 
--- the options of words: the word behind the name of an option that takes a number is its value
+-- the options of some words; the word after the name of an option that takes a number is its value
 abbrev pub options_in : List (List ℕ) → List Written
 options_in [] = []
 options_in (word ∷ []) = option_in word ∷ []
@@ -76,50 +78,56 @@ setting_of name value =
     then result_map_both set.MostWorkers (λ fault. fault) (number_in value)
     else (if bytes_eq name (codes "--most-steps")
     then result_map_both set.MostSteps (λ fault. fault) (number_in value)
+    else (if bytes_eq name (codes "--most-bytes")
+    then result_map_both set.MostBytes (λ fault. fault) (number_in value)
     else (if bytes_eq name (codes "--log") then without_value set.Log value
     else (if bytes_eq name (codes "--help") || bytes_eq name (codes "-h")
     then without_value set.Help value
     else (if bytes_eq name (codes "--version") then without_value set.Version value
-    else Err NoSuchOption))))
+    else Err NoSuchOption)))))
 
 -- what an option asks for, or its refusal
 abbrev pub setting_in : Written → Result Setting Refusal
 setting_in option = result_map_both (λ setting. setting)
     (λ fault. record { name = option.name; fault = fault }) (setting_of option.name option.value)
 
--- a value in front of others, or the first error
+-- a value put in front of others, or the first error
 abbrev pub cons_ok : {A E : Type 0} → Result A E → Result (List A) E → Result (List A) E
 cons_ok (Ok x) rest = result_map_both (λ xs. x ∷ xs) (λ e. e) rest
 cons_ok (Err e) rest = Err e
 
--- the values of all, or the first error
+-- the values of all results, or the first error
 abbrev pub all_ok : {A E : Type 0} → List (Result A E) → Result (List A) E
 all_ok [] = Ok []
 all_ok (r ∷ rest) = cons_ok r (all_ok rest)
 
--- the command to answer requests by these options, to which a setting is applied
+-- the command after a setting was applied to the command to serve by these options
 abbrev pub serving_with : ServeOptions → Setting → Command
 serving_with options (set.MostWorkers n) = command.Serve
     (record options { limits = record options.limits { workers = Some n } })
 serving_with options (set.MostSteps n) = command.Serve
     (record options { limits = record options.limits { steps = Some n } })
+serving_with options (set.MostBytes n) = command.Serve
+    (record options { limits = record options.limits { bytes = Some n } })
 serving_with options set.Log = command.Serve (record options { log = true })
 serving_with options set.Help = command.Help
 serving_with options set.Version = command.Version
 
--- a command to which a setting is applied; help and the version stand, whatever follows
+-- the command after a setting was applied to it; help and version stay as they are
 abbrev pub with_setting : Command → Setting → Command
 with_setting (command.Serve options) setting = serving_with options setting
 with_setting command.Help setting = command.Help
 with_setting command.Version setting = command.Version
 
--- a command to which the options of words are applied in order, or the first that is refused
+-- the command after the options of some words were applied to it in order, or the first option that
+-- is refused
 abbrev pub command_after : Command → List (List ℕ) → Result Command Refusal
 command_after command words =
     result_map_both (λ settings. fold with_setting command settings) (λ refusal. refusal)
     (all_ok (map setting_in (options_in words)))
 
--- what words ask for, where no words ask for answers without limits and without a log
+-- the command that some words ask for; without words it is to serve without limits and without a
+-- log
 abbrev pub command_in : List (List ℕ) → Result Command Refusal
 command_in words =
     command_after (command.Serve (record { limits = no_limits; log = false })) words

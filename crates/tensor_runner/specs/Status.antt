@@ -1,4 +1,4 @@
--- The numbers of the faults, and the names of those of limits.
+-- The numbers of the faults, and the names of the faults of limits.
 pub use Rattle.message_server.specs.Ending.{stream_fault_number}
 use Rattle.std.specs.Prelude.{ℕ, List, codes}
 use Rattle.tensor_runner.specs.declared.limits.LimitFault.{LimitFault}
@@ -7,15 +7,17 @@ use Rattle.tensor_runner.specs.declared.limits.LimitFault.TheVariants.{TooManySt
 use Rattle.tensor_runner.specs.declared.status.RunFault.{RunFault}
 use Rattle.tensor_runner.specs.declared.status.RunFault.TheVariants as run
 
--- want of memory has the number that it has as a text's fault
+-- the number of a fault of `eval`; `NoMemory` as a fault of a text has it too
 abbrev pub run_fault_number : RunFault → ℕ
 run_fault_number run.NoMemory = 15
 
--- behind those of requests and streams; 18 was a fault once, and isn't used again
+-- the number of a limit's fault; the numbers up to 17 are faults of requests and streams, and 18 is
+-- retired and must not be used again
 abbrev pub limit_number : LimitFault → ℕ
 limit_number TooManyWorkers = 19
 limit_number TooManySteps = 20
 
+-- the name of a limit's fault
 abbrev pub limit_name : LimitFault → List ℕ
 limit_name TooManyWorkers = codes "TooManyWorkers"
 limit_name TooManySteps = codes "TooManySteps"

@@ -1,4 +1,5 @@
-//! The answer line of a text, whole in memory before it is written.
+//! The line that answers a text, built in memory before it is written. `run` and the servers of
+//! lines share it, so a change here touches all of them; specs/Line.antt says what a line has.
 
 ghost use Rattle.std.specs.Prelude.{◌≡◌, ℕ, List, Some, None, IfOk, MatchResult};
 ghost use Rattle.std.specs.Cow.{cow_slice_items};
@@ -7,7 +8,7 @@ ghost use Rattle.expr_reader.specs.Request.{asked_tensor};
 ghost use Rattle.tensor_runner.specs.Answer.{tensor_line, fault_line};
 ghost use Rattle.tensor_runner.specs.private.Kept.{IsKept};
 ghost use Rattle.tensor_runner.specs.Limited.{limit_line};
-ghost use Rattle.tensor_runner.specs.Line.{entry_of, IsLineUnder, IsFaultOf, IsRefusal};
+ghost use Rattle.tensor_runner.specs.Line.{entry_of, IsLineFrom, IsLineUnder, IsFaultOf, IsRefusal};
 
 use crate::evaluation::eval;
 use crate::journal::{AnyFault, Entry};
@@ -22,27 +23,32 @@ use std::borrow::CowSlice;
 use std::sync::Wait;
 use std::thread::Threads;
 
-/// The lines that take no memory: where there is none, where the text is too long, and of limits.
+/// The line if an allocation fails. Like the other constant lines, it needs no allocation itself.
 const NO_MEMORY: &[u8] = b"error 15 NoMemory\n";
 
+/// The line for a text that is too long.
 const TOO_LONG: &[u8] = b"error 1 TooLong\n";
 
+/// The line for a request that asks for too many workers.
 const TOO_MANY_WORKERS: &[u8] = b"error 19 TooManyWorkers\n";
 
+/// The line for a request that takes too many steps.
 const TOO_MANY_STEPS: &[u8] = b"error 20 TooManySteps\n";
 
-/// A line with its line feed, and what it says.
+/// The line that answers a text, and what it says.
 #[derive(Drop)]
 pub(crate) struct Line {
+    /// The bytes of the line, with its line feed.
     pub(crate) bytes: CowSlice<'static, u8, Global>,
+    /// Whether the line has a tensor or a fault.
     pub(crate) status: Status,
-    /// The fault that it says. There is none of a tensor.
+    /// The fault that the line says, or `None` if the line has a tensor.
     pub(crate) fault: Option<AnyFault>,
-    /// The steps of the request that it answers, where that is known.
+    /// The steps of the request that the line answers, if they are known.
     pub(crate) steps: Option<u128>,
 }
 
-/// What is noted of a text of so many bytes and of its line.
+/// Returns the journal's note on a text of `bytes` bytes that this line answers.
 pub(crate) fn entry_of(bytes: usize, line: &Line) -> Entry
     ensures { result ≡ entry_of bytes line.now }
 {
@@ -54,8 +60,24 @@ pub(crate) fn entry_of(bytes: usize, line: &Line) -> Entry
     }
 }
 
-/// The line that answers a text of which this is kept, under limits.
+/// Returns the line that answers a text under limits, given what is kept of the text. A text that is
+/// longer than the limit of bytes isn't read.
 pub(crate) fn answer<RT: Threads + Wait + Sync>(
+    rt: &RT,
+    alloc: Global,
+    limits: Limits,
+    kept: KeptText,
+) -> Line
+    ensures { (text : List ℕ) → IsKept text kept → IsLineFrom limits text result }
+{
+    if limits.is_too_long(kept.len() as u128) {
+        return too_long();
+    }
+    answer_kept(rt, alloc, limits, kept)
+}
+
+/// Returns the line that answers a text of no more bytes than the limits allow.
+fn answer_kept<RT: Threads + Wait + Sync>(
     rt: &RT,
     alloc: Global,
     limits: Limits,
@@ -70,7 +92,8 @@ pub(crate) fn answer<RT: Threads + Wait + Sync>(
     }
 }
 
-/// The line that answers a text under limits, in the text's own room where it is a tensor's.
+/// Returns the line that answers a text under limits. The line of a tensor reuses the memory of the
+/// text.
 fn answer_text<RT: Threads + Wait + Sync>(
     rt: &RT,
     alloc: Global,
@@ -85,8 +108,9 @@ fn answer_text<RT: Threads + Wait + Sync>(
     }
 }
 
-/// The line of a text's tensor, or of the limit that its request is over, or the fault that there is
-/// of it.
+/// Returns the line of the text's tensor, or the line of the limit that its request is over, or the
+/// line `error 15 NoMemory` if the evaluation runs out of memory. A fault of the text is returned
+/// as an error.
 fn line_of<RT: Threads + Wait + Sync>(
     rt: &RT,
     alloc: Global,
@@ -110,7 +134,7 @@ fn line_of<RT: Threads + Wait + Sync>(
     }
 }
 
-/// The line of a limit that a request of so many steps is over, which takes no memory.
+/// Returns the line of the limit that a request of `steps` steps is over. It needs no allocation.
 fn limit_line(fault: LimitFault, steps: u128) -> Line
     ensures bytes { cow_slice_items result.bytes ≡ limit_line fault }
     ensures fault { result.fault ≡ Some (AnyFault.Limit fault) }
@@ -122,6 +146,7 @@ fn limit_line(fault: LimitFault, steps: u128) -> Line
     }
 }
 
+/// Returns the line for a request of `steps` steps that asks for too many workers.
 fn too_many_workers(steps: u128) -> Line
     ensures bytes { cow_slice_items result.bytes ≡ limit_line LimitFault.TooManyWorkers }
     ensures fault { result.fault ≡ Some (AnyFault.Limit LimitFault.TooManyWorkers) }
@@ -135,6 +160,7 @@ fn too_many_workers(steps: u128) -> Line
     }
 }
 
+/// Returns the line for a request that takes `steps` steps, too many.
 fn too_many_steps(steps: u128) -> Line
     ensures bytes { cow_slice_items result.bytes ≡ limit_line LimitFault.TooManySteps }
     ensures fault { result.fault ≡ Some (AnyFault.Limit LimitFault.TooManySteps) }
@@ -148,7 +174,8 @@ fn too_many_steps(steps: u128) -> Line
     }
 }
 
-/// The line of want of memory, which takes none, for a request of so many steps, if they are known.
+/// Returns the line `error 15 NoMemory`, for a request of `steps` steps if they are known. It needs
+/// no allocation.
 fn no_memory(steps: Option<u128>) -> Line
     ensures bytes { cow_slice_items result.bytes ≡ fault_line Fault.NoMemory }
     ensures status { result.status ≡ Status.Fault }
@@ -163,7 +190,7 @@ fn no_memory(steps: Option<u128>) -> Line
     }
 }
 
-/// The line of a text that is too long, which takes no memory.
+/// Returns the line for a text that is too long. It needs no allocation.
 fn too_long() -> Line
     ensures bytes { cow_slice_items result.bytes ≡ fault_line Fault.TooLong }
     ensures status { result.status ≡ Status.Fault }
@@ -178,7 +205,7 @@ fn too_long() -> Line
     }
 }
 
-/// The line of a tensor, of these bytes and for a request of so many steps.
+/// Returns the line of a tensor, given its bytes and the steps of its request.
 fn tensor_line(bytes: Vec<u8>, steps: u128) -> Line
     ensures bytes { cow_slice_items result.bytes ≡ bytes.items }
     ensures status { result.status ≡ Status.Tensor }
@@ -193,8 +220,8 @@ fn tensor_line(bytes: Vec<u8>, steps: u128) -> Line
     }
 }
 
-/// The bytes of the line of a request's tensor, or want of memory. They take the place of the text,
-/// which isn't needed any more once it is read.
+/// Evaluates a request and returns the bytes of its tensor's line. They reuse the memory of the
+/// text, which isn't needed any more.
 fn tensor_text<RT: Threads + Wait + Sync>(
     rt: &RT,
     alloc: Global,
@@ -213,7 +240,8 @@ fn tensor_text<RT: Threads + Wait + Sync>(
     }
 }
 
-/// The line of a fault, or of want of memory. That of a text that is too long wants none.
+/// Returns the line of a fault of a text, or the line `error 15 NoMemory` if an allocation fails.
+/// The line for a text that is too long needs no allocation.
 fn refusal(alloc: Global, fault: Fault) -> Line
     ensures fault { IsRefusal fault result }
     ensures status { result.status ≡ Status.Fault }

@@ -1,4 +1,5 @@
-//! Reads a text from a stream and writes its answer on another.
+//! The engine for one text: `run` reads it from a stream and writes its answer to another. A change
+//! here touches `serve`; the promises of `run` stand first in docs/HEADLINE.md.
 
 ghost use Rattle.std.specs.Prelude.{◌≡◌, ◌+◌, ◌≤◌, List, ℕ, Some, Err, OnOk, IfOk, IfErr};
 ghost use Rattle.tensor_runner.specs.Line.{IsLineOfRead};
@@ -15,19 +16,19 @@ use std::alloc::Global;
 use std::sync::Wait;
 use std::thread::Threads;
 
-/// The most bytes of a text that are read: one more than a text may have, which tells that it is
-/// too long.
+/// The most bytes of a text that are read. It is one more than a text may have, so a text with this
+/// many bytes is too long.
 pub const MOST_READ: usize = 16_777_217;
 
-/// Reads a request text to its end, or to its first [`MOST_READ`] bytes, and writes the line that
-/// answers it: the tensor, which the request's workers work out, or the first fault. No memory is
-/// taken from the first write on; where there is none before it, the line says so.
+/// Reads a request text to its end, or its first [`MOST_READ`] bytes, and writes the line that
+/// answers it: the tensor that the request's workers compute, or the first fault. If an allocation
+/// fails, the line is `error 15 NoMemory`. From the first write on nothing is allocated.
 ///
 /// # Errors
 ///
-/// [`StreamFault::ReadFault`] at any error of a read: nothing was written then.
-/// [`StreamFault::WriteFault`] at an error of a write, or where it takes nothing: the front of the
-/// line was written then.
+/// [`StreamFault::ReadFault`] if a read fails; nothing was written then.
+/// [`StreamFault::WriteFault`] if a write fails or takes no byte; what was written is then a prefix
+/// of the line.
 pub fn run<RT: Threads + Wait + Sync, R: Source, W: Sink>(
     rt: &RT,
     alloc: Global,
@@ -40,7 +41,7 @@ pub fn run<RT: Threads + Wait + Sync, R: Source, W: Sink>(
     ensures cut_short { (text held : List ℕ) → R.remaining reader.old ≡ Some text
         → W.contents writer.old ≡ Some held → result ≡ Err StreamFault.WriteFault
         → CutsShort text held (R.remaining reader.new) (W.contents writer.new) }
-    // Whatever it ends with.
+    // However the run ends.
     ensures taken { TakesAtMost most_reads (R.remaining reader.old) (R.remaining reader.new) }
 
     ensures read_fault { result ≡ Err StreamFault.ReadFault
@@ -57,7 +58,7 @@ pub fn run<RT: Threads + Wait + Sync, R: Source, W: Sink>(
     Ok(line.status)
 }
 
-/// The line that answers the text of a reader, whole in memory.
+/// Reads the text of a reader and returns the whole line that answers it.
 fn prepare<RT: Threads + Wait + Sync, R: Source>(
     rt: &RT,
     alloc: Global,

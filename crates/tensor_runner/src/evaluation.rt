@@ -1,4 +1,5 @@
-//! The tensor of a request.
+//! Evaluates a request to its tensor, for lines and for frames. A change here touches `answer.rt`,
+//! frame_server, and the starts of threads that tests/test_starts.py counts.
 
 ghost use Rattle.std.specs.Prelude.{◌≡◌, ◌+◌, ◌^◌, ◌<◌, length, IfOk, IsOk, IsTrue};
 ghost use Rattle.expr_reader.specs.Asked.{asked_under};
@@ -27,7 +28,7 @@ impl From<AllocError> for RunFault {
     }
 }
 
-/// What works out the tensors of a request.
+/// What is needed to evaluate the expressions of a request.
 #[derive(Drop)]
 struct Evaluation<'a, 'i, RT> {
     rt: &'a RT,
@@ -36,7 +37,7 @@ struct Evaluation<'a, 'i, RT> {
 }
 
 impl<RT: Threads + Wait + Sync> Evaluation<'_, '_, RT> {
-    /// The tensor of an expression over tensors.
+    /// Evaluates an expression over these tensors, by the workers and the block of the request.
     fn tensor(&self, expr: &Expr, tensors: &Inputs<'_>) -> Result<Tensor<'static>, RunFault>
         requires inputs { IsTrue (has_inputs (term_of expr.now) (length tensors.now.tensors)) }
         requires dims { IsOk (dims_of tensors.now.bounds (term_of expr.now) tensors.now.tensors) }
@@ -63,13 +64,13 @@ impl<RT: Threads + Wait + Sync> Evaluation<'_, '_, RT> {
     }
 }
 
-/// The tensor that a request asks for, worked out by its workers in blocks of the size that it
-/// names. Neither changes the tensor. The tensors of its bindings are worked out before, one after
-/// the other, and each is held as long as something left reads it.
+/// Returns the tensor that a request asks for, evaluated by the workers that it names, in blocks of
+/// the size that it names. Neither changes the tensor. The bindings are evaluated first, one after
+/// the other; the tensor of each is held as long as something still to be evaluated reads it.
 ///
 /// # Errors
 ///
-/// [`RunFault::NoMemory`], where a growth of memory was refused.
+/// [`RunFault::NoMemory`] if an allocation fails.
 pub fn eval<RT: Threads + Wait + Sync>(
     rt: &RT,
     alloc: Global,
@@ -81,7 +82,7 @@ pub fn eval<RT: Threads + Wait + Sync>(
     if request.bindings.is_empty() {
         return evaluation.tensor(&request.expr, &request.inputs);
     }
-    // Says that dims can go as far as the inputs' bounds.
+    // For the proof alone: the contract of this call says that the inputs' bounds are possible.
     let _limit = request.inputs.bounds();
     let mut tensors = request.inputs.lent(alloc)?.widened();
     for (done, binding) in request.bindings.iter().enumerate() {

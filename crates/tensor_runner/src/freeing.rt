@@ -1,4 +1,5 @@
-//! Freeing the tensors of bindings that nothing left to do reads.
+//! Frees the tensors of bindings that nothing still to be evaluated reads. Only `eval` uses it;
+//! that it changes no result is specs/private/Held.antt.
 
 ghost use Rattle.std.specs.Prelude.{◌≡◌, ◌+◌, ◌<◌, List, drop, length};
 ghost use Rattle.expr_reader.specs.Contents.{Contents};
@@ -8,8 +9,9 @@ ghost use Rattle.tensor_runner.specs.private.Held.{is_read, AreHeldFor};
 use expr_reader::{Binding, Expr, Inputs, Request};
 use tensor_reduce::reads;
 
-/// Frees those of the tensors of bindings that nothing left reads: of those that the binding just done
-/// reads, and its own, which is the last.
+/// Frees tensors of bindings after binding `done` was evaluated, if neither a later binding nor the
+/// expression reads them. Only its own tensor, the last, and the tensors that it reads are looked
+/// at.
 pub(crate) fn free_unread(request: &Request<'_>, done: usize, tensors: &mut Inputs<'_>)
     requires { done < length request.now.bindings.items }
     ensures held { (all : List Contents) → AreHeldFor (drop (done + 1) request.now.bindings.items)
@@ -29,7 +31,7 @@ pub(crate) fn free_unread(request: &Request<'_>, done: usize, tensors: &mut Inpu
     }
 }
 
-/// Whether a binding left or the expression behind them reads the tensor of a number.
+/// Returns whether one of the bindings `left` or the expression reads tensor `number`.
 fn is_read(left: &[Binding], expr: &Expr, number: u32) -> bool
     ensures { result ≡ is_read number left.now (term_of expr.now) }
 {

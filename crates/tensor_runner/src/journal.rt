@@ -1,4 +1,6 @@
-//! What a server notes of each request, and how that is written.
+//! The journal of a server: what it notes of each request, and the log line that `--log` writes. A
+//! change of the line touches docs/SERVE.md and its tests; a change of `Entry` touches `entry_of`
+//! here and in frame_server, and specs/Journal.antt.
 
 use crate::limits::LimitFault;
 use expr_reader::Fault;
@@ -6,39 +8,40 @@ use std::io::Write;
 use std::time::{Clock, Instant};
 use std::{fmt, io};
 
-/// Why a request was answered by no tensor.
+/// The reason why a request was not answered by a tensor.
 #[derive(Clone, Copy, Debug, Drop, Eq, PartialEq)]
 pub enum AnyFault {
-    /// A fault of its text or frame, or want of memory.
+    /// A fault of the request's text or frame, or running out of memory.
     Request(Fault),
-    /// It is over a limit.
+    /// A limit that the request is over.
     Limit(LimitFault),
 }
 
-/// What is noted of a request that was answered.
+/// The note on a request that was answered.
 #[derive(Clone, Copy, Debug, Drop, Eq, PartialEq)]
 pub struct Entry {
-    /// How many bytes it had; of a text that is too long, how many tell that.
+    /// The number of bytes of the request, without the line feed of a line. For a text that is too
+    /// long it is 16,777,217, the number of bytes that were counted.
     pub bytes: u128,
-    /// How many bytes its answer has.
+    /// The number of bytes of the answer, with the line feed of a line.
     pub answered: u128,
-    /// The fault that the answer says. There is none of a tensor.
+    /// The fault that the answer says, or `None` if the answer is a tensor.
     pub fault: Option<AnyFault>,
-    /// The steps that it takes. There are none of what is no request, or wasn't read for want of
-    /// memory.
+    /// The steps that the request takes. `None` if there is no valid request, or if an allocation
+    /// failed while it was read.
     pub steps: Option<u128>,
 }
 
-/// Where a server notes its requests.
+/// A journal, in which a server notes its requests.
 pub trait Journal {
-    /// A request was wholly read.
+    /// Notes that a request was wholly read.
     fn begin(&mut self);
 
-    /// Its answer was written.
+    /// Notes that the answer of the request that began last was written.
     fn end(&mut self, entry: &Entry);
 }
 
-/// No journal.
+/// A journal that notes nothing.
 #[derive(Clone, Copy, Debug, Drop, Eq, PartialEq)]
 pub struct Silent;
 
@@ -48,8 +51,23 @@ impl Journal for Silent {
     fn end(&mut self, _entry: &Entry) {}
 }
 
-/// A journal of lines, one for each request. What can't be written of it is lost: no answer waits for
-/// another try.
+/// A journal that may be absent, and notes nothing then.
+impl<J: Journal> Journal for Option<J> {
+    fn begin(&mut self) {
+        if let Some(journal) = self {
+            journal.begin();
+        }
+    }
+
+    fn end(&mut self, entry: &Entry) {
+        if let Some(journal) = self {
+            journal.end(entry);
+        }
+    }
+}
+
+/// A journal that writes one line for each request. A line that can't be written is lost, and its
+/// write isn't tried again.
 #[derive(Drop)]
 pub struct LineJournal<W: Write + Drop, K: Clock + Drop> {
     writer: W,
@@ -59,7 +77,8 @@ pub struct LineJournal<W: Write + Drop, K: Clock + Drop> {
 }
 
 impl<W: Write + Drop, K: Clock + Drop> LineJournal<W, K> {
-    /// An empty one, on a writer that is flushed behind each line.
+    /// Returns a journal on this writer, which is flushed after each line. `clock` measures the
+    /// time of each request.
     pub fn new(writer: W, clock: K) -> LineJournal<W, K> {
         LineJournal {
             writer,
@@ -69,7 +88,8 @@ impl<W: Write + Drop, K: Clock + Drop> LineJournal<W, K> {
         }
     }
 
-    /// How many microseconds have passed since the request was read, where the clock says so.
+    /// Returns how many microseconds have passed since the request was read, or `None` if the clock
+    /// failed.
     fn passed(&self) -> Option<u128> {
         let begun = self.begun?;
         match begun.elapsed(&self.clock) {
@@ -78,7 +98,7 @@ impl<W: Write + Drop, K: Clock + Drop> LineJournal<W, K> {
         }
     }
 
-    /// Writes a line.
+    /// Writes the line of a request and flushes the writer.
     fn write_entry(&mut self, entry: &Entry) -> io::Result<()> {
         let Entry {
             bytes,
@@ -119,7 +139,7 @@ impl AnyFault {
     ghost use Rattle.std.specs.Prelude.{◌≡◌};
     ghost use Rattle.tensor_runner.specs.Journal.{any_number, any_name};
 
-    /// The number.
+    /// Returns the number of the fault, as the answer has it.
     pub fn number(self) -> u32
         ensures { result ≡ any_number self }
     {
@@ -129,7 +149,7 @@ impl AnyFault {
         }
     }
 
-    /// The name, as the answer has it.
+    /// Returns the name of the fault, as the answer has it.
     pub fn name(self) -> &'static str
         ensures { result.now ≡ any_name self }
     {
@@ -140,7 +160,7 @@ impl AnyFault {
     }
 }
 
-/// A number, or `-` where there is none.
+/// A number that is printed as `-` if it is unknown.
 #[derive(Clone, Copy, Drop)]
 struct Known(Option<u128>);
 

@@ -1,4 +1,5 @@
-//! Tensors of which the dims are known and no values: a request's, before any is worked out.
+//! The dims of a request's inputs and bindings, before any binding is evaluated. `work.rt` counts
+//! steps by them.
 
 ghost use Rattle.std.specs.Prelude.{◌≡◌, ◌<◌, ◌≤◌, ◌++◌, length, map, take, Ok};
 ghost use Rattle.expr_reader.specs.Contents.{input_of};
@@ -10,7 +11,7 @@ ghost use Rattle.tensor_terms.specs.Result.{operand_dims};
 use expr_reader::{Binding, Dims, Expr, Inputs, Request};
 use tensor_ops::{ExprFault, WIDEST};
 
-/// Inputs, and behind them the tensors of bindings, of which the dims alone are known.
+/// Inputs, followed by the tensors of bindings. Only their dims are known.
 #[derive(Drop)]
 pub(crate) struct Known<'a, 'i> {
     pub(crate) inputs: &'a Inputs<'i>,
@@ -20,7 +21,7 @@ pub(crate) struct Known<'a, 'i> {
 impl<'a, 'i> Known<'a, 'i> {
     ghost use Rattle.tensor_runner.specs.private.Known.{dims_of_all, dims_known, tensors_known};
 
-    /// The inputs of a request, and so many of its bindings.
+    /// Returns the inputs of a request and its first `done` bindings.
     pub(crate) fn of(request: &'a Request<'i>, done: usize) -> Known<'a, 'i>
         requires { done ≤ length request.now.bindings.items }
         ensures { dims_known result ≡ dims_of_all request.now.inputs.tensors
@@ -32,7 +33,7 @@ impl<'a, 'i> Known<'a, 'i> {
         }
     }
 
-    /// The dims of the tensor of a number.
+    /// Returns the dims of tensor `number`. The bindings are numbered after the inputs.
     pub(crate) fn dims(&self, number: u32) -> Dims
         requires { number < length (tensors_known self.now) }
         ensures { result ≡ (input_of (tensors_known self.now) number).dims }
@@ -44,7 +45,7 @@ impl<'a, 'i> Known<'a, 'i> {
         self.bindings[(number - count) as usize].dims.copied()
     }
 
-    /// The dims of an operation over these tensors, where those of its operands are known.
+    /// Returns the dims of an operation over these tensors, given the dims of its operands.
     pub(crate) fn dims_over(&self, expr: &Expr, operands: &[Dims]) -> Result<Dims, ExprFault>
         requires some { 0 < length operands.now }
         requires operands { operand_dims widest (term_of expr.now) (tensors_known self.now)

@@ -1,5 +1,6 @@
-//! The engine: a request text in, one line out; or many texts, a line each. What is written is the
-//! tensor that a text's expression means, or its first fault.
+//! The engine of the programs: it reads a request text and writes one line, or reads many texts,
+//! one a line, and writes a line for each. A line has the tensor of the request, or its first
+//! fault. frame_server uses `eval`, limits and journals of this crate. README.md has the picture.
 #![tactic(auto)]
 
 mod answer;
@@ -10,6 +11,7 @@ mod freeing;
 mod journal;
 mod kept;
 mod known;
+mod laws;
 mod limits;
 mod line_protocol;
 mod options;
@@ -23,18 +25,19 @@ mod text;
 mod work;
 mod writing;
 
-pub use ending::{serve, serve_lines, serve_lines_logged, serve_lines_within};
+pub use ending::{serve, serve_lines};
 pub use engine::{MOST_READ, run};
 pub use evaluation::eval;
 pub use expr_reader::{Request, Tensor};
 pub use journal::{AnyFault, Entry, Journal, LineJournal, Silent};
+pub use laws::no_limits_change_no_line;
 pub use limits::{LimitFault, Limits};
 pub use message_server::{
     Client, Connection, CountedReader, CountedWriter, Ending, Sink, Source, StreamFault,
     Uninterrupted, ending_of, write_answer,
 };
 pub use options::{Command, OptionFault, RefusedOption, ServeOptions, VERSION, command_of};
-pub use server::{answer_lines, answer_lines_logged, answer_lines_within};
+pub use server::answer_lines;
 pub use service::Service;
 pub use stack::grow_stack;
 pub use status::{RunFault, Status};

@@ -1,4 +1,6 @@
-//! Lines as messages: each is a request, and is answered by a line.
+//! Lines as messages: each line is a request, and is answered by a line. It is the `Protocol` that
+//! `answer_lines` hands to `answer_messages` of message_server; its laws stand in
+//! specs/private/Laws.antt.
 
 ghost use Rattle.std.specs.Thread.{IsSync};
 ghost use Rattle.std.specs.Cow.{cow_slice_items};
@@ -9,7 +11,7 @@ ghost use Rattle.tensor_runner.specs.private.Parting.{by_feeds};
 
 use crate::answer::{Line, answer, entry_of};
 use crate::journal::{Entry, Journal};
-use crate::kept::KeptText;
+use crate::kept::{KeptText, Room};
 use crate::limits::Limits;
 use crate::service::Service;
 use crate::taking::next_line;
@@ -18,14 +20,14 @@ use std::alloc::Global;
 use std::sync::Wait;
 use std::thread::Threads;
 
-/// Lines that are answered as a service does.
+/// The protocol of lines, answered as a service says.
 #[derive(Drop)]
 pub(crate) struct LineProtocol<J: Journal + Drop> {
     pub(crate) alloc: Global,
     pub(crate) service: Service<J>,
 }
 
-/// A line that answers, and what is noted of it once it is written.
+/// The line that answers a request, and the note that the journal gets once the line is written.
 #[derive(Drop)]
 pub(crate) struct NotedLine {
     line: Line,
@@ -49,6 +51,8 @@ impl<RT: Threads + Wait + Sync, J: Journal + Drop> Protocol<RT> for LineProtocol
 
     ghost told = { λ answer. cow_slice_items answer.line.bytes };
 
+    ghost most_writes = { λ answer. 1 };
+
     ghost can_answer = { IsSync RT.row };
 
     ghost laws = { laws };
@@ -59,7 +63,8 @@ impl<RT: Threads + Wait + Sync, J: Journal + Drop> Protocol<RT> for LineProtocol
         client: &mut C,
         buffer: &mut InputBuffer,
     ) -> Result<Next<KeptText>, StreamFault> {
-        next_line(rt, self.alloc, client, buffer)
+        let room = Room::of(self.alloc, self.service.limits);
+        next_line(rt, room, client, buffer)
     }
 
     fn answer(&mut self, rt: &RT, kept: KeptText) -> NotedLine {

@@ -1,4 +1,5 @@
-//! Reads the options of a program that answers many requests.
+//! Reads the options of tensor_lines and tensor_frames. A new option touches specs/Options.antt,
+//! both mains with their usage lines, docs/SERVE.md and the man pages.
 
 ghost use Rattle.std.specs.Prelude.{◌≡◌, ◌<◌, ◌≤◌, ◌∷◌, map, length, drop, Ok, Err, IfOk, IfErr};
 ghost use Rattle.std.specs.Prelude.{option_copied, string_bytes};
@@ -10,25 +11,25 @@ use crate::limits::Limits;
 use thiserror::Error;
 
 /// The version of the programs.
-pub const VERSION: &str = "2.1.0";
+pub const VERSION: &str = "3.0.0";
 
-/// What a program is asked for.
+/// What the options ask of a program.
 #[derive(Clone, Copy, Debug, Drop, Eq, PartialEq)]
 pub enum Command {
-    /// To answer requests so.
+    /// Answer requests by these options.
     Serve(ServeOptions),
-    /// To say how it is called.
+    /// Print the usage line.
     Help,
-    /// To say its version.
+    /// Print the version.
     Version,
 }
 
-/// How requests are answered.
+/// The options by which requests are answered.
 #[derive(Clone, Copy, Debug, Drop, Eq, PartialEq)]
 pub struct ServeOptions {
-    /// The most that is computed for one.
+    /// The most that is computed for one request.
     pub limits: Limits,
-    /// Whether each is noted on standard error.
+    /// Whether each request is noted on standard error.
     pub log: bool,
 }
 
@@ -41,7 +42,7 @@ pub enum OptionFault {
     /// The option takes a number, and has no value.
     #[error("a number is missing")]
     NumberMissing,
-    /// The option takes a number, and its value is none of 64 bits.
+    /// The option takes a number, and its value isn't a whole number below 2^64.
     #[error("the value is not a whole number below 2^64")]
     NotANumber,
     /// The option takes no value, and has one.
@@ -53,39 +54,46 @@ pub enum OptionFault {
 #[derive(Clone, Copy, Debug, Drop, Error)]
 #[error("{name}: {fault}")]
 pub struct RefusedOption<'a> {
-    /// Its name, as the words have it.
+    /// The name of the option, as it was written.
     pub name: &'a str,
-    /// What is wrong with it.
+    /// What is wrong with the option.
     pub fault: OptionFault,
 }
 
 /// What one option asks for.
 #[derive(Clone, Copy, Drop)]
 enum Setting {
+    /// `--most-workers`, with its value.
     MostWorkers(u64),
+    /// `--most-steps`, with its value.
     MostSteps(u64),
+    /// `--most-bytes`, with its value.
+    MostBytes(u64),
+    /// `--log`.
     Log,
+    /// `--help` or `-h`.
     Help,
+    /// `--version`.
     Version,
 }
 
-/// The option that words begin with.
+/// The first option of some words.
 #[derive(Clone, Copy, Drop)]
 struct FirstOption<'a> {
-    /// Its name.
+    /// The name of the option.
     name: &'a str,
-    /// Its value, if it has one.
+    /// The value of the option, if it has one.
     value: Option<&'a str>,
-    /// How many words write it.
+    /// How many words the option takes up, 1 or 2.
     word_count: usize,
 }
 
-/// Reads the words behind a program's name. Its options are applied in order, so that the last one of
-/// a kind stands.
+/// Reads the words after a program's name. Its options are applied in order: the last limit of a
+/// kind counts, and the first of help and version wins over everything else.
 ///
 /// # Errors
 ///
-/// The first option that is refused.
+/// The first option that is refused, even after help or version.
 pub fn command_of<'a>(words: &'a [String]) -> Result<Command, RefusedOption<'a>>
     ensures command { IfOk result
         (λ command. command_in (map string_bytes words.now) ≡ Ok command) }
@@ -114,7 +122,8 @@ pub fn command_of<'a>(words: &'a [String]) -> Result<Command, RefusedOption<'a>>
     Ok(command)
 }
 
-/// Reads the option that words begin with.
+/// Reads the first option of some words. If it takes a number and stands without `=`, its value is
+/// the next word.
 fn first_option<'a>(words: &'a [String]) -> FirstOption<'a>
     requires { 0 < length words.now }
     ensures first { options_in (map string_bytes words.now)
@@ -140,14 +149,14 @@ fn first_option<'a>(words: &'a [String]) -> FirstOption<'a>
     }
 }
 
-/// Whether the option of this name takes a number.
+/// Returns whether the option of this name takes a number.
 fn takes_number(name: &str) -> bool
     ensures { result ≡ takes_number name.now }
 {
-    name == "--most-workers" || name == "--most-steps"
+    name == "--most-workers" || name == "--most-steps" || name == "--most-bytes"
 }
 
-/// Parts a word into the name and the value of its option.
+/// Splits a word `name` or `name=value` into the name and the value of its option.
 fn parted(word: &str) -> (&str, Option<&str>)
     ensures { option_in word.now
         ≡ record { name = result.0.now; value = option_copied result.1 } }
@@ -158,13 +167,14 @@ fn parted(word: &str) -> (&str, Option<&str>)
     }
 }
 
-/// Reads what an option asks for.
+/// Returns what the option of this name and this value asks for.
 fn setting_of(name: &str, value: Option<&str>) -> Result<Setting, OptionFault>
     ensures { result ≡ setting_of name.now (option_copied value.entry) }
 {
     match name {
         "--most-workers" => Ok(Setting::MostWorkers(number_in(value)?)),
         "--most-steps" => Ok(Setting::MostSteps(number_in(value)?)),
+        "--most-bytes" => Ok(Setting::MostBytes(number_in(value)?)),
         "--log" => without_value(Setting::Log, value),
         "--help" | "-h" => without_value(Setting::Help, value),
         "--version" => without_value(Setting::Version, value),
@@ -185,7 +195,7 @@ fn number_in(value: Option<&str>) -> Result<u64, OptionFault>
     }
 }
 
-/// The setting of an option that takes no value.
+/// Returns the setting of an option that takes no value, or the fault if it has one.
 fn without_value(setting: Setting, value: Option<&str>) -> Result<Setting, OptionFault>
     ensures { result ≡ without_value setting (option_copied value.entry) }
 {
@@ -195,7 +205,7 @@ fn without_value(setting: Setting, value: Option<&str>) -> Result<Setting, Optio
     }
 }
 
-/// A command to which a setting is applied.
+/// Returns a command after a setting was applied to it. Help and version stay as they are.
 fn with_setting(command: Command, setting: Setting) -> Command
     ensures { result ≡ with_setting command setting }
 {
@@ -206,7 +216,7 @@ fn with_setting(command: Command, setting: Setting) -> Command
     }
 }
 
-/// The command to answer requests by these options, to which a setting is applied.
+/// Returns the command after a setting was applied to the command to serve by these options.
 fn serving_with(options: ServeOptions, setting: Setting) -> Command
     ensures { result ≡ serving_with options setting }
 {
@@ -222,6 +232,13 @@ fn serving_with(options: ServeOptions, setting: Setting) -> Command
         Setting::MostSteps(most) => Command::Serve(ServeOptions {
             limits: Limits {
                 steps: Some(most),
+                ..limits
+            },
+            ..options
+        }),
+        Setting::MostBytes(most) => Command::Serve(ServeOptions {
+            limits: Limits {
+                bytes: Some(most),
                 ..limits
             },
             ..options

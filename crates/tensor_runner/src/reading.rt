@@ -1,4 +1,5 @@
-//! Reading a text.
+//! Reads one text from a stream, for `run`. A change here touches `run`'s promises on what was read
+//! (specs/Run.antt).
 
 ghost use Rattle.std.specs.Prelude.{◌≡◌, ◌+◌, ◌-◌, ◌≤◌, ◌<◌, IfOk, IfErr, IfSome, MatchResult};
 ghost use Rattle.tensor_runner.specs.private.Kept.{kept_len};
@@ -11,12 +12,15 @@ use crate::kept::KeptText;
 use message_server::{Source, StreamFault};
 use std::alloc::Global;
 
-/// How many bytes a read asks for.
+/// The most bytes that one read asks for.
 const CHUNK: usize = 65_536;
 
-/// What is kept of a stream's bytes, read to their end or to the first [`MOST_READ`]. Where a
-/// growth of memory is refused the rest is read all the same: it tells whether the text is too
-/// long.
+/// Reads a stream to its end, or its first [`MOST_READ`] bytes, and returns what is kept of them.
+/// If an allocation fails, the rest is still read, to find out whether the text is too long.
+///
+/// # Errors
+///
+/// [`StreamFault::ReadFault`] if a read fails.
 pub(crate) fn read_text<R: Source>(alloc: Global, reader: &mut R) -> Result<KeptText, StreamFault>
     ensures text { IfOk result (λ kept. IfSome (R.remaining reader.old)
         (λ all. IsFrontOf all kept (R.remaining reader.new))) }
@@ -40,7 +44,7 @@ pub(crate) fn read_text<R: Source>(alloc: Global, reader: &mut R) -> Result<Kept
     unreachable!()
 }
 
-/// Reads some bytes behind those of the text, and answers how many.
+/// Makes one read, appends its bytes to the text, and returns how many they are.
 fn read_some<R: Source>(
     reader: &mut R,
     buffer: &mut [u8; CHUNK],
@@ -60,6 +64,6 @@ fn read_some<R: Source>(
     let Ok(count) = reader.read(&mut buffer[..room]) else {
         return Err(StreamFault::ReadFault);
     };
-    kept.keep(&buffer[..count]);
+    kept.keep(&buffer[..count], MOST_READ);
     Ok(count)
 }

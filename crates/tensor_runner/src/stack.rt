@@ -1,4 +1,5 @@
-//! Has the stack grow before it is needed.
+//! Grows the stack of a program before its first request. The mains call it; `STACK` has to cover
+//! the deepest request, so a change of a recursion, or of the limit of nested nodes, touches it.
 
 ghost use Rattle.std.specs.Io.KnownBytes.{Keeps};
 
@@ -7,18 +8,20 @@ use std::fs;
 use std::fs::Files;
 use std::io::Read;
 
-/// As many bytes of stack as the deepest request takes, and some more.
+/// How many bytes the stack is grown by: more than the deepest request needs.
 const STACK: u64 = 1_048_576;
 
-/// What is left of a limit for what called the program, and for what it calls.
+/// How many bytes of the system's limit are left alone, for the frames that are on the stack
+/// already and for the calls that `grow` makes.
 const LEFT: u64 = 262_144;
 
-/// How many bytes the stack grows by at a time.
+/// How many bytes of stack one call of `grow` takes.
 const PIECE: usize = 65_536;
 
-/// Has the stack grow now, by reads of no bytes into pieces of it. Under a limit of memory a request
-/// may take all memory, and a stack that can't grow then ends the program. Where the stack itself is
-/// limited to less, it grows as far as that limit lets it. What the reader has left stays unread.
+/// Grows the stack now by up to 1 MiB, by reads of 0 bytes into arrays on it; nothing of the reader
+/// is consumed. Under a limit of memory a request may take all memory, and a stack that can't grow
+/// then would end the program. If the system limits the stack itself to less, the stack grows to
+/// 256 KiB below that limit.
 pub fn grow_stack<F: Files + Alloc, R: Read>(files: &F, reader: &mut R)
     ensures { Keeps (R.remaining reader.old) (R.remaining reader.new) }
 {
@@ -26,7 +29,7 @@ pub fn grow_stack<F: Files + Alloc, R: Read>(files: &F, reader: &mut R)
     grow(reader, most / PIECE as u64);
 }
 
-/// Has the stack grow by this number of pieces.
+/// Grows the stack by the given number of pieces of [`PIECE`] bytes, and by one if that is 0.
 #[inline(never)]
 fn grow<R: Read>(reader: &mut R, pieces: u64)
     ensures { Keeps (R.remaining reader.old) (R.remaining reader.new) }
@@ -38,7 +41,8 @@ fn grow<R: Read>(reader: &mut R, pieces: u64)
     let _none = reader.read(&mut room[..0]);
 }
 
-/// How many bytes the stack may have, as the system says; where it doesn't, as many as are wanted.
+/// Returns how many bytes the stack may have, from `/proc/self/limits`. If that can't be read, the
+/// number is as large as `grow_stack` needs.
 fn stack_limit<F: Files + Alloc>(files: &F) -> u64 {
     let Ok(limits) = fs::read_to_string(files, "/proc/self/limits") else {
         return STACK + LEFT;
@@ -51,7 +55,8 @@ fn stack_limit<F: Files + Alloc>(files: &F) -> u64 {
     STACK + LEFT
 }
 
-/// The first of a limit's words, as a number; none is a limit.
+/// Returns the first word of a limit as a number of bytes. A word that isn't a number is no limit,
+/// and gives the greatest `u64`.
 fn limit_of(limit: &str) -> u64 {
     let Some(word) = limit.split_whitespace().next() else {
         return STACK + LEFT;

@@ -1,22 +1,23 @@
-//! How a run ended.
+//! How a run ended: what its line says, and the fault of `eval`. A change here touches
+//! specs/Status.antt and frame_server.
 
 ghost use Rattle.std.specs.Prelude.{◌≡◌};
 
 use thiserror::Error;
 
-/// What the line says.
+/// What the line that answers a text says.
 #[derive(Clone, Copy, Debug, Drop, Eq, PartialEq)]
 pub enum Status {
-    /// A tensor.
+    /// The line has a tensor.
     Tensor,
-    /// A fault.
+    /// The line has a fault.
     Fault,
 }
 
-/// Why a request has no tensor.
+/// The reason why a request has no tensor.
 #[derive(Clone, Copy, Debug, Drop, Eq, PartialEq, Error)]
 pub enum RunFault {
-    /// A growth of memory was refused.
+    /// An allocation failed.
     #[error("error 15 NoMemory")]
     NoMemory = 15,
 }
@@ -24,7 +25,7 @@ pub enum RunFault {
 impl RunFault {
     ghost use Rattle.tensor_runner.specs.Status.{run_fault_number};
 
-    /// The number, which want of memory has as a fault of a text too.
+    /// Returns the number of the fault, 15. `NoMemory` as a fault of a text has this number too.
     pub fn number(self) -> u32
         ensures { result ≡ run_fault_number self }
     {

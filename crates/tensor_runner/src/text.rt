@@ -1,4 +1,6 @@
-//! The line of a tensor, as compact JSON (RFC 8259).
+//! The line of a tensor, as compact JSON (RFC 8259). A change of the format touches
+//! specs/Answer.antt, docs/REQUEST.md and the Python client; frame_server writes the dims of its
+//! headers by `unsigned_text`.
 
 ghost use Rattle.std.specs.Prelude.{◌≡◌, ℤ, pos, ◌++◌, map, IfOk, OnOk};
 ghost use Rattle.serde_json.specs.View.{view};
@@ -9,11 +11,11 @@ use expr_reader::Tensor;
 use serde_json::Value;
 use std::alloc::{AllocError, Global};
 
-/// How many numbers are printed at a time, so that their values and their text stay in the same
-/// few pages.
+/// How many numbers are printed at a time. Their values and their text then stay in a few pages of
+/// memory, which are used again.
 const NUMBERS_AT_ONCE: usize = 4_096;
 
-/// Appends `{"data":[..],"dims":[..]}` and a line feed.
+/// Appends the line of a tensor, `{"data":[..],"dims":[..]}` and a line feed.
 pub(crate) fn push_tensor(
     alloc: Global,
     tensor: &Tensor,
@@ -28,7 +30,7 @@ pub(crate) fn push_tensor(
     line.extend_from_slice(b"}\n")
 }
 
-/// Appends numbers with commas between, a piece after the other.
+/// Appends numbers with commas between them, [`NUMBERS_AT_ONCE`] at a time.
 fn push_data(alloc: Global, numbers: &[i64], line: &mut Vec<u8>) -> Result<(), AllocError>
     ensures { OnOk result (line.new.items ≡ line.old.items ++ numbers_text numbers.now) }
 {
@@ -41,7 +43,7 @@ fn push_data(alloc: Global, numbers: &[i64], line: &mut Vec<u8>) -> Result<(), A
     Ok(())
 }
 
-/// Appends numbers with commas between: the text of their array without its brackets.
+/// Appends numbers with commas between them. This is the text of their array without the brackets.
 fn push_piece(alloc: Global, numbers: &[i64], line: &mut Vec<u8>) -> Result<(), AllocError>
     ensures { OnOk result (line.new.items ≡ line.old.items ++ numbers_text numbers.now) }
 {
@@ -49,25 +51,25 @@ fn push_piece(alloc: Global, numbers: &[i64], line: &mut Vec<u8>) -> Result<(), 
     line.extend_from_slice(&text[1..text.len() - 1])
 }
 
-/// Numbers as an array.
+/// Returns the text of an array of signed numbers.
 fn signed_text(alloc: Global, numbers: &[i64]) -> Result<Vec<u8>, AllocError>
     ensures { IfOk result (λ text. text.items ≡ bracketed numbers.now) }
 {
     array_text(alloc, numbers)
 }
 
-/// Numbers from 0 up as an array.
+/// Returns the text of an array of unsigned numbers.
 ///
 /// # Errors
 ///
-/// [`AllocError`], where a growth of memory was refused.
+/// [`AllocError`] if an allocation fails.
 pub fn unsigned_text(alloc: Global, numbers: &[u64]) -> Result<Vec<u8>, AllocError>
     ensures { IfOk result (λ text. text.items ≡ bracketed (map pos numbers.now)) }
 {
     array_text(alloc, numbers)
 }
 
-/// Numbers of a type as an array, which stand for what they are as values.
+/// Returns the text of an array of numbers of any type that converts to a JSON value.
 fn array_text<N: Copy + Into<Value>>(alloc: Global, numbers: &[N]) -> Result<Vec<u8>, AllocError>
     ensures { (f : N → ℤ) → ((x : N) (v : Value) → N.converts x v → view v ≡ integer (f x))
         → IfOk result (λ text. text.items ≡ bracketed (map f numbers.now)) }

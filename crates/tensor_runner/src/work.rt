@@ -1,4 +1,6 @@
-//! How many steps a request takes, counted before any of it is worked out.
+//! The number of steps that a request takes, counted before any of it is evaluated. Limits and
+//! journals use it; specs/Work.antt defines the steps of each operation, and docs/SERVE.md and
+//! `./explain` tell users of them.
 
 ghost use Rattle.std.specs.Prelude.{◌≡◌, ◌+◌, ◌*◌, ◌^◌, ◌<◌, ◌≤◌, length, true, IsTrue, IfOk, Ok, Err};
 ghost use Rattle.std.specs.Prelude.{MatchResult, IsOk};
@@ -10,29 +12,33 @@ ghost use Rattle.expr_reader.specs.Term.{has_inputs, nodes_of};
 ghost use Rattle.expr_reader.specs.Tree.{term_of, unary_at, binary_at};
 ghost use Rattle.tensor_reduce.specs.Contraction.{firsts};
 ghost use Rattle.tensor_reduce.specs.Reduction.{are_axes};
-ghost use Rattle.tensor_reduce.specs.Steps.{combines, combines_two};
+ghost use Rattle.tensor_ops.specs.Facts.{combines, combines_two};
 ghost use Rattle.tensor_reduce.specs.Merged.{dims_at};
-ghost use Rattle.tensor_runner.specs.Limited.{is_over, over_limits};
+ghost use Rattle.tensor_runner.specs.Limited.{over_limits};
 ghost use Rattle.tensor_runner.specs.private.Known.{tensors_known};
 ghost use Rattle.tensor_runner.specs.Work.{operations, operations_over, unary_steps, binary_steps};
 ghost use Rattle.tensor_runner.specs.Work.{combined, steps_over, steps_of};
 
 use crate::known::Known;
-use crate::limits::{LimitFault, Limits};
+use crate::limits::{LimitFault, Limits, is_over};
 use expr_reader::{Dims, Expr, Request};
 use tensor_ops::{Binary, ExprFault, Node, Unary};
 use tensor_terms::{dims_at, paired_axes};
 
-/// What is counted of an expression: how many operations each of its places takes, and the steps of
-/// what it combines.
+/// The dims of an expression, and what is counted of it.
 #[derive(Drop)]
 struct Count {
+    /// The dims of the expression.
     dims: Dims,
+    /// How many operations are computed for each place of the expression, down to inputs and to
+    /// operands that are tensors of their own.
     operations: u64,
+    /// The steps of all operations in the expression that combine values.
     combined: u128,
 }
 
-/// The limit that a request is over that takes so many steps, that of its workers first.
+/// Returns the limit that a request of `steps` steps is over, if any. The limit of workers comes
+/// first.
 pub fn over_limits(limits: Limits, request: &Request<'_>, steps: u128) -> Option<LimitFault>
     requires { steps ≡ steps_of (asked_under request.now) }
     ensures { result ≡ over_limits limits (asked_under request.now) }
@@ -46,21 +52,12 @@ pub fn over_limits(limits: Limits, request: &Request<'_>, steps: u128) -> Option
     None
 }
 
-/// Whether a number is over a limit, where there is one.
-fn is_over(most: Option<u64>, number: u128) -> bool
-    ensures { result ≡ is_over most number }
-{
-    match most {
-        None => false,
-        Some(most) => u128::from(most) < number,
-    }
-}
-
-/// How many steps a request takes, counted in time linear in its nodes. No memory is taken.
+/// Returns how many steps a request takes, counted in time linear in its nodes and without an
+/// allocation.
 pub fn steps_of(request: &Request<'_>) -> u128
     ensures { result ≡ steps_of (asked_under request.now) }
 {
-    // Says that dims can go as far as the inputs' bounds.
+    // For the proof alone: the contract of this call says that the inputs' bounds are possible.
     let _limit = request.inputs.bounds();
     let mut steps = 0;
     for (done, binding) in request.bindings.iter().enumerate() {
@@ -69,7 +66,7 @@ pub fn steps_of(request: &Request<'_>) -> u128
     steps + steps_over(&Known::of(request, request.bindings.len()), &request.expr)
 }
 
-/// How many steps an expression takes over tensors whose dims are known.
+/// Returns how many steps an expression takes over tensors of known dims.
 fn steps_over(known: &Known<'_, '_>, expr: &Expr) -> u128
     requires inputs { IsTrue (has_inputs (term_of expr.now) (length (tensors_known known.now))) }
     requires dims { IsOk (dims_of widest (term_of expr.now) (tensors_known known.now)) }
@@ -83,8 +80,8 @@ fn steps_over(known: &Known<'_, '_>, expr: &Expr) -> u128
     found.combined + worked_out(&found)
 }
 
-/// What is counted of an expression, whose operands' dims are found once. A sum has at most so many
-/// parts as there are nodes, each far below what would wrap.
+/// Counts an expression over tensors of known dims. The dims of each operand are computed once. The
+/// sums don't wrap: they have at most one term a node, and each term is small.
 fn counted(known: &Known<'_, '_>, expr: &Expr) -> Result<Count, ExprFault>
     requires inputs { IsTrue (has_inputs (term_of expr.now) (length (tensors_known known.now))) }
     requires few { nodes_of (term_of expr.now) < 2 ^ 32 }
@@ -130,7 +127,7 @@ fn counted(known: &Known<'_, '_>, expr: &Expr) -> Result<Count, ExprFault>
     }
 }
 
-/// What is counted of an operation that has these dims on one operand.
+/// Returns the count of an operation on one operand, given the dims of its result.
 fn over_one(operation: Unary<'_>, dims: Dims, first: &Count) -> Count
     requires few { first.now.operations < 2 ^ 32 }
     requires small { first.now.combined < 2 ^ 100 }
@@ -143,7 +140,7 @@ fn over_one(operation: Unary<'_>, dims: Dims, first: &Count) -> Count
     ensures few { result.operations ≤ 1 + first.now.operations }
     ensures small { result.combined ≤ first.now.combined + 2 ^ 62 }
 {
-    let operations = operations_over(combines(operation), first.operations);
+    let operations = operations_over(operation.combines(), first.operations);
     let own = unary_steps(operation, &dims, first);
     Count {
         dims,
@@ -152,7 +149,7 @@ fn over_one(operation: Unary<'_>, dims: Dims, first: &Count) -> Count
     }
 }
 
-/// What is counted of an operation that has these dims on two operands.
+/// Returns the count of an operation on two operands, given the dims of its result.
 fn over_two(operation: Binary<'_>, dims: Dims, first: &Count, second: &Count) -> Count
     requires few { first.now.operations + second.now.operations < 2 ^ 32 }
     requires small { first.now.combined + second.now.combined < 2 ^ 100 }
@@ -169,7 +166,7 @@ fn over_two(operation: Binary<'_>, dims: Dims, first: &Count, second: &Count) ->
     ensures small { result.combined ≤ first.now.combined + second.now.combined + 2 ^ 62 }
 {
     let below = first.operations + second.operations;
-    let operations = operations_over(combines_two(operation), below);
+    let operations = operations_over(operation.combines(), below);
     let own = binary_steps(operation, &dims, first, second);
     Count {
         dims,
@@ -178,7 +175,8 @@ fn over_two(operation: Binary<'_>, dims: Dims, first: &Count, second: &Count) ->
     }
 }
 
-/// How many operations a place takes, given how many stand below the last.
+/// Returns how many operations are computed for each place of a result, given how many its operands
+/// have. An operation that combines values counts none, since its steps are counted apart.
 fn operations_over(combining: bool, below: u64) -> u64
     requires { below < 2 ^ 33 }
     ensures value { result ≡ operations_over combining below }
@@ -187,7 +185,7 @@ fn operations_over(combining: bool, below: u64) -> u64
     if combining { 0 } else { 1 + below }
 }
 
-/// What an operation on one operand takes that combines its values.
+/// Returns the steps of an operation on one operand that combines its values, and 0 for any other.
 fn unary_steps(operation: Unary<'_>, dims: &Dims, first: &Count) -> u128
     requires { first.now.operations < 2 ^ 32 }
     ensures value { result ≡ unary_steps (unary_at operation.entry) (size_of dims.now)
@@ -202,7 +200,8 @@ fn unary_steps(operation: Unary<'_>, dims: &Dims, first: &Count) -> u128
     }
 }
 
-/// What an operation on two operands takes that combines products of them.
+/// Returns the steps of a contraction, a convolution or a take, and 0 for any other operation on
+/// two operands.
 fn binary_steps(operation: Binary<'_>, dims: &Dims, first: &Count, second: &Count) -> u128
     requires few { first.now.operations + second.now.operations < 2 ^ 32 }
     requires dims { binary_dims widest (binary_at operation) first.now.dims
@@ -224,7 +223,8 @@ fn binary_steps(operation: Binary<'_>, dims: &Dims, first: &Count, second: &Coun
     }
 }
 
-/// What an operand takes that is worked out as a tensor of its own, beside what it combines.
+/// Returns the steps of evaluating an operand as a tensor of its own, without the steps of the
+/// operations in it that combine values.
 fn worked_out(operand: &Count) -> u128
     requires { operand.now.operations < 2 ^ 32 }
     ensures value { result ≡ size_of operand.now.dims * operand.now.operations }
@@ -233,8 +233,8 @@ fn worked_out(operand: &Count) -> u128
     u128::from(operand.dims.size() * operand.operations)
 }
 
-/// A step for each place, and one for each product, of which each place has as many as there are
-/// index lists of the second dims.
+/// Returns the steps of a sum of products: one for each place of `dims`, and one for each product.
+/// A place has as many products as `summed` has index lists.
 fn products(dims: &Dims, summed: &Dims) -> u128
     ensures value { result ≡ size_of dims.now + size_of dims.now * size_of summed.now }
     ensures small { result ≤ 2 ^ 57 }
@@ -242,31 +242,11 @@ fn products(dims: &Dims, summed: &Dims) -> u128
     u128::from(dims.size() + dims.size() * summed.size())
 }
 
-/// The dims of the axes of a first operand that are paired.
+/// Returns the sizes of the first operand's axes that a contraction pairs.
 fn paired_dims(pairs: &[(u64, u64)], first: &Dims) -> Dims
     requires { are_axes (length first.now) (firsts pairs.now) ≡ true }
     ensures { result ≡ dims_at (firsts pairs.now) first.now }
 {
     let (firsts, _) = paired_axes(pairs, first).unwrap();
     dims_at(firsts.as_slice(), first)
-}
-
-/// Whether an operation goes over its operand as a tensor of its own.
-fn combines(operation: Unary<'_>) -> bool
-    ensures { result ≡ combines (unary_at operation.entry) }
-{
-    match operation {
-        Unary::Each(_) | Unary::Constant(_) | Unary::Move(_) | Unary::Pad(_) => false,
-        Unary::Reduce(_, _) | Unary::Along(_, _) => true,
-    }
-}
-
-/// The same of two operands.
-fn combines_two(operation: Binary<'_>) -> bool
-    ensures { result ≡ combines_two (binary_at operation.entry) }
-{
-    match operation {
-        Binary::Pairwise(_) | Binary::Concat(_) => false,
-        Binary::Contract(_) | Binary::Convolve(_) | Binary::Take(_) => true,
-    }
 }

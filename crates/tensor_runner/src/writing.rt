@@ -1,4 +1,5 @@
-//! Writing a line.
+//! Writes one line to a sink, for `run`. The servers of lines write by `write_answer` of
+//! message_server, which does it to a client.
 
 ghost use Rattle.std.specs.Prelude.{◌≡◌, ◌<◌, ℕ, List, length, take, OnOk, IfErr};
 ghost use Rattle.std.specs.Io.KnownBytes.{Appends};
@@ -7,8 +8,8 @@ ghost use Rattle.message_server.specs.Streams.{HasFailed};
 
 use message_server::{Sink, StreamFault};
 
-/// Writes the whole line, by as many writes as it takes. Stops at the first that fails or takes
-/// nothing.
+/// Writes the whole line, by as many writes as are needed. Stops at the first write that fails or
+/// takes no byte; what was written is then a prefix of the line.
 pub(crate) fn write_line<W: Sink>(writer: &mut W, line: &[u8]) -> Result<(), StreamFault>
     ensures ok { OnOk result (Appends (W.contents writer.old) (W.contents writer.new) line.now) }
     ensures ok_failures { OnOk result (W.failures writer.new ≡ W.failures writer.old) }

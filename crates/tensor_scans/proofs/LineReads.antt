@@ -16,7 +16,7 @@ use Rattle.tensor_scans.specs.declared.operation.LineOperation.TheVariants.{Cums
 use Rattle.tensor_scans.proofs.LinePlaces.{block-lt, line_place-lt}
 use Rattle.tensor_scans.proofs.Rows.{some_factor}
 
--- a number's place is so many strides on from the first
+-- number k of a line lies k strides after the first
 pub record IsRead (lines : Lines) (p k at : ℕ) : Type 0 where
   pub place : at ≡ line_place lines 1 p k
   pub inside : at < line_values lines lines.length

@@ -8,7 +8,7 @@ use Rattle.tensor_scans.specs.Places.{line_through}
 use Rattle.tensor_scans.specs.declared.lines.Lines.{Lines}
 use Rattle.tensor_values.proofs.Runs.{map-joined, map-shifted}
 
--- a place of a block of rows: so many places into a row, of so many rows into the block
+-- a place of a block of rows: place i of row j
 pub record IsAt (s w block i j p : ℕ) : Type 0 where
   pub inside : i < s
   pub row : j < w

@@ -1,3 +1,3 @@
--- What private clauses and proofs of this crate cite, and no other crate.
+-- What only this crate's private clauses and proofs cite.
 pub mod Firsts
 pub mod Rows

@@ -1,4 +1,5 @@
-//! Operations along lines of values, written where they are wanted.
+//! Fills a range of the result of an operation along lines, in the caller's buffer. A change of
+//! what is written touches `specs/Places`; `operands/along.rt` of tensor_ops calls it.
 
 ghost use Rattle.std.specs.Prelude.{◌≡◌, ◌<◌, ◌≤◌, ◌+◌, ℕ, length};
 ghost use Rattle.tensor_scans.specs.Lines.{width_of};
@@ -9,21 +10,22 @@ use crate::lines::Lines;
 use crate::operation::LineOperation;
 use tensor_values::Reducer;
 
-/// An operation along lines of values.
+/// An operation along one axis, and the tensor that it reads.
 #[derive(Clone, Copy, Drop)]
 pub struct AlongLines<'a> {
-    /// What each line gives.
+    /// The operation on each line.
     pub operation: LineOperation,
-    /// Where the lines lie.
+    /// Where the lines lie in `values`.
     pub lines: Lines,
-    /// The values of all lines.
+    /// The values of the tensor.
     pub values: &'a [i64],
     ghost whole: { length values.now ≡ line_values lines lines.length },
 }
 
 impl AlongLines<'_> {
-    /// Writes what the operation gives at the places of its result from one on, as many as there is
-    /// room for, whatever stands there. A cumulative one reads what is before them in their lines.
+    /// Writes the values of the result at the places `[first, first + out.len())` and overwrites
+    /// what is in `out`. A cumulative operation also reads the values before `first` in the same
+    /// lines.
     pub fn fill(self, first: usize, out: &mut [i64])
         requires { first + length out.old
             ≤ line_values self.lines (width_of self.operation self.lines.length) }

@@ -1,13 +1,7 @@
 //! Operations along one axis of a tensor: cumulative sums and products, the first place of the
-//! greatest or the least value, and the values that a list of numbers takes.
-//!
-//! ```text
-//! stride 2, length 3, two blocks        a line: every second place of a block
-//!
-//! place   0  1  2  3  4  5    6  7  8  9 10 11
-//! line    a  b  a  b  a  b    c  d  c  d  c  d
-//! number  0  0  1  1  2  2    0  0  1  1  2  2
-//! ```
+//! greatest or the least value, and the values that a list of numbers selects. README.md has the
+//! picture of lines, numbers and blocks. `operands/along.rt` of tensor_ops fills ranges through
+//! this crate; the cursor of tensor_terms evaluates single places through `Progress`.
 #![tactic(auto)]
 
 mod along;

@@ -1,22 +1,25 @@
-//! Where lines lie among the values of a tensor.
+//! Where lines lie among the values of a tensor. A change touches `specs/Places`, and `AxisLines`
+//! of tensor_terms, which makes lines from dims and an axis.
 
 ghost use Rattle.std.specs.Prelude.{◌≡◌, ◌<◌, ◌≤◌, ◌^◌};
 ghost use Rattle.tensor_scans.specs.Places.{line_place, line_values, number_at};
 
-/// The lines along an axis: the axes before it, itself, and the axes behind.
+/// The lines along an axis. A tensor is a list of blocks, a block is a list of rows, and each row
+/// has one value of each line of its block. A value's number is its position in its line.
 #[derive(Clone, Copy, Debug, Drop, Eq, PartialEq)]
 pub struct Lines {
-    /// How many places lie between two values of a line: as many as the axes before have.
+    /// The number of values in a row, which is the distance between neighbours in a line: the
+    /// product of the sizes before the axis.
     pub stride: usize,
-    /// How many values a line has.
+    /// The number of values in a line: the size of the axis.
     pub length: usize,
-    /// How many blocks of such lines there are: as many places as the axes behind have.
+    /// The number of blocks: the product of the sizes after the axis.
     pub blocks: usize,
 }
 
 impl Lines {
-    /// The place of number k of the line that belongs to a place of a result, which has so many
-    /// values in the place of a line.
+    /// Returns the place of number `k` in the line that `result_place` belongs to. The result is a
+    /// tensor in which each line has `width` values.
     pub fn place(self, width: usize, result_place: usize, k: usize) -> usize
         requires below { result_place < line_values self width }
         requires number { k < self.length }
@@ -28,7 +31,8 @@ impl Lines {
         result_place % self.stride + self.stride * (k + self.length * block)
     }
 
-    /// Which number in its line a place of such a result has.
+    /// Returns the number that `result_place` has in its line. The result is a tensor in which each
+    /// line has `width` values.
     pub fn number(self, width: usize, result_place: usize) -> usize
         requires below { result_place < line_values self width }
         ensures number { result ≡ number_at self width result_place }

@@ -1,4 +1,6 @@
-//! One value for each line: where its greatest or its least stands first.
+//! Argmax and argmin: the number at which the greatest or the least value of each line stands
+//! first. The two modules are loops of one meaning, for stride 1 and for any other stride. A change
+//! of what they return touches `specs/Lines`.
 
 mod by_rows;
 mod side_by_side;
@@ -12,8 +14,9 @@ use crate::along::AlongLines;
 use crate::operation::LineOperation;
 
 impl AlongLines<'_> {
-    /// Writes where each line has its first greatest, or its first least (0 for a line of none), at
-    /// the places of the result from one on, by an operation that is known where this is compiled.
+    /// Writes the first number of the greatest or the least value of each line at the result places
+    /// `[first, first + out.len())`; 0 for lines without values. The operation is a constant at
+    /// compile time.
     #[inline(always)]
     pub(crate) fn fill_located(self, operation: LineOperation, first: usize, out: &mut [i64])
         requires single { is_cumulative operation ≡ false }
@@ -40,7 +43,7 @@ impl AlongLines<'_> {
     }
 }
 
-/// Makes all values one value.
+/// Sets all values to `value`.
 #[inline(always)]
 fn set_all(values: &mut [i64], value: i64)
     ensures len { length values.new ≡ length values.old }

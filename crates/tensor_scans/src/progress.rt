@@ -1,25 +1,26 @@
-//! What an operation on a line knows of the first values of it.
+//! An operation on a line, one value after the other. A change touches `specs/Progress`, and the
+//! cursor of tensor_terms, which evaluates single places like this.
 
 ghost use Rattle.std.specs.Prelude.{◌≡◌, ℤ, pos, List, [], ◌∷◌, ◌++◌, length, ◌<◌, ◌^◌};
 ghost use Rattle.tensor_scans.specs.Lines.{outcome};
 
 use crate::operation::LineOperation;
 
-/// What is known of the values of a line up to one of them.
+/// The state of an operation after the first values of a line.
 #[derive(Clone, Copy, Debug, Drop)]
 pub struct Progress {
-    /// What they are combined to.
+    /// The values seen so far, combined.
     pub(crate) combined: i64,
-    /// Where that stands first among them; 0 before there are any.
+    /// The number at which `combined` stands first; 0 if no value was seen.
     pub(crate) first: u64,
-    /// How many they are.
+    /// The number of values seen so far.
     pub(crate) count: u64,
 }
 
 impl Progress {
     ghost use Rattle.tensor_scans.specs.Progress.{IsProgress};
 
-    /// Before the first value.
+    /// Returns the state before the first value.
     #[inline(always)]
     pub fn start(operation: LineOperation) -> Progress
         ensures { IsProgress operation [] result }
@@ -31,7 +32,7 @@ impl Progress {
         }
     }
 
-    /// With the next value.
+    /// Returns the state after one more value. The operation must be the one that it began with.
     #[inline(always)]
     pub fn after(self, operation: LineOperation, value: i64) -> Progress
         requires { self.count < 2 ^ 63 }
@@ -51,7 +52,7 @@ impl Progress {
         }
     }
 
-    /// What the values give.
+    /// Returns the result of the operation on the values seen so far.
     #[inline(always)]
     pub fn outcome(self, operation: LineOperation) -> i64
         requires { self.count < 2 ^ 63 }

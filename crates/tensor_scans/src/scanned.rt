@@ -1,5 +1,5 @@
-//! Cumulative operations: each value of a line combined with those before it, by ranges of places of
-//! the result.
+//! Cumulative operations: each value of a line combined with all values before it, for a range of
+//! result places. A change of the order of the loops touches `specs/private/Rows` and no meaning.
 
 ghost use Rattle.std.specs.Prelude.{◌≡◌, ◌<◌, ◌≤◌, ◌+◌, ◌%◌, ℕ, length, take};
 ghost use Rattle.tensor_scans.specs.Places.{line_values};
@@ -11,8 +11,8 @@ use crate::along::AlongLines;
 use tensor_values::Reducer;
 
 impl AlongLines<'_> {
-    /// Writes what values combined one after the other give at the places of the result from one on,
-    /// by a reducer that is known where this is compiled: block by block.
+    /// Writes the running combinations at the result places `[first, first + out.len())`, block by
+    /// block. The reducer is a constant at compile time.
     #[inline(always)]
     pub(crate) fn fill_cumulative(self, reducer: Reducer, first: usize, out: &mut [i64])
         requires { first + length out.old ≤ line_values self.lines self.lines.length }
@@ -41,16 +41,18 @@ impl AlongLines<'_> {
     }
 }
 
-/// A block of lines, row after row: a row has one value of each.
+/// A block of lines, row after row: a row has one value of each line.
 #[derive(Clone, Copy, Drop)]
 struct Block<'a> {
+    /// The number of values in a row.
     stride: usize,
+    /// The values of the whole block.
     values: &'a [i64],
     ghost some: { 0 < stride },
 }
 
 impl Block<'_> {
-    /// Writes what is combined at the places of a block from one on.
+    /// Writes the running combinations at the places `[from, from + out.len())` of this block.
     #[inline(always)]
     fn fill(self, reducer: Reducer, from: usize, out: &mut [i64])
         requires within { from + length out.old ≤ length self.values.now }
@@ -65,8 +67,10 @@ impl Block<'_> {
         }
     }
 
-    /// The same of a block of rows. The first values, with none a stride before them here, are combined
-    /// from the unit, and each other follows that one.
+    /// Writes the running combinations at the places `[from, from + out.len())` of a block whose
+    /// rows have more than one value. Values with no predecessor in `out` are combined from the
+    /// unit; each later value is its predecessor, one stride before, combined with the value of the
+    /// tensor.
     #[inline(always)]
     fn fill_rows(self, reducer: Reducer, from: usize, out: &mut [i64])
         requires within { from + length out.old ≤ length self.values.now }
@@ -86,7 +90,7 @@ impl Block<'_> {
         follow(reducer, stride, &self.values[from..], out);
     }
 
-    /// Writes at places of one row what their lines' values up to there are combined to.
+    /// Writes the running combinations at some places of one row: combines all rows up to that row.
     #[inline(always)]
     fn fold_rows(self, reducer: Reducer, from: usize, out: &mut [i64])
         requires some { 0 < length out.old }
@@ -107,8 +111,8 @@ impl Block<'_> {
     }
 }
 
-/// Writes what the values of one line are combined to, from one of its numbers on: what there is so far
-/// is at hand.
+/// Writes the running combinations of one line at the numbers `[from, from + out.len())`. The
+/// combination of the values before `from` is computed first.
 #[inline(always)]
 fn fill_line(reducer: Reducer, line: &[i64], from: usize, out: &mut [i64])
     requires { from + length out.old ≤ length line.now }
@@ -123,7 +127,7 @@ fn fill_line(reducer: Reducer, line: &[i64], from: usize, out: &mut [i64])
     }
 }
 
-/// The values, combined from the unit.
+/// Combines the values, beginning with the unit.
 #[inline(always)]
 fn combined(reducer: Reducer, values: &[i64]) -> i64
     ensures { result ≡ combination reducer values.now }
@@ -135,7 +139,7 @@ fn combined(reducer: Reducer, values: &[i64]) -> i64
     all
 }
 
-/// Writes each value of a row, combined with the unit.
+/// Writes the values of a row, each combined with the unit.
 #[inline(always)]
 fn begin_row(reducer: Reducer, row: &mut [i64], values: &[i64])
     requires { length row.old ≡ length values.now }
@@ -149,7 +153,7 @@ fn begin_row(reducer: Reducer, row: &mut [i64], values: &[i64])
     }
 }
 
-/// Combines each value with that at its place in another row.
+/// Combines each value of `row` with the value at the same place in `others`.
 #[inline(always)]
 fn fold_row(reducer: Reducer, row: &mut [i64], others: &[i64])
     requires { length row.old ≡ length others.now }
@@ -162,8 +166,8 @@ fn fold_row(reducer: Reducer, row: &mut [i64], others: &[i64])
     }
 }
 
-/// Makes each value but the first ones that a stride before, combined with the one at its place in
-/// a list.
+/// Replaces each value, except the first `stride` ones, by the value one stride before it combined
+/// with the value at the same place in `values`.
 #[inline(always)]
 fn follow(reducer: Reducer, stride: usize, values: &[i64], out: &mut [i64])
     requires stride { 0 < stride }

@@ -1,7 +1,6 @@
-//! The values of lines that a list of numbers takes, written where they are wanted.
-//!
-//! What the lines of a block have at one number, a row of the block, lies side by side, and so it does
-//! in the result.
+//! Takes the values of lines at a list of numbers, for a range of result places. The values of a
+//! row lie side by side in the operand and in the result, so whole rows are copied. A change of
+//! what is written touches `specs/Places`.
 
 ghost use Rattle.std.specs.Prelude.{◌≡◌, ◌<◌, ◌≤◌, ◌+◌, ◌-◌, ◌*◌, ◌^◌, ℕ, length, min};
 ghost use Rattle.tensor_scans.specs.Lines.{taken_from};
@@ -11,21 +10,21 @@ ghost use Rattle.tensor_values.specs.Values.{value_in};
 
 use crate::lines::Lines;
 
-/// A take of the values of lines at numbers.
+/// A take of the values at some numbers of each line.
 #[derive(Clone, Copy, Drop)]
 pub struct TakenLines<'a> {
-    /// Where the lines lie.
+    /// Where the lines lie in `values`.
     pub lines: Lines,
-    /// The values of all lines.
+    /// The values of the tensor.
     pub values: &'a [i64],
-    /// The numbers of each line whose values stand in its place.
+    /// The numbers to take from each line, in order. A number outside the line gives 0.
     pub numbers: &'a [i64],
     ghost whole: { length values.now ≡ line_values lines lines.length },
 }
 
 impl<'a> TakenLines<'a> {
-    /// Writes the values that are taken (0 where a number is none of the line's) at the places of the
-    /// result from one on, as many as there is room for, whatever stands there.
+    /// Writes the values of the result at the places `[first, first + out.len())` and overwrites
+    /// what is in `out`. A number that is negative or not below the length of a line gives 0.
     pub fn fill(self, first: usize, out: &mut [i64])
         requires { first + length out.old ≤ line_values self.lines (length self.numbers.now) }
         ensures len { length out.new ≡ length out.old }
@@ -45,7 +44,7 @@ impl<'a> TakenLines<'a> {
         }
     }
 
-    /// The same take, by a stride that is known where this is compiled.
+    /// Returns this take with its stride given as a constant at compile time.
     #[inline(always)]
     fn of_stride(self, stride: usize) -> TakenLines<'a>
         requires { stride ≡ self.lines.stride }
@@ -64,7 +63,8 @@ impl<'a> TakenLines<'a> {
         }
     }
 
-    /// Writes what is taken block by block, where there is room for some.
+    /// Writes the values of the result at the places `[first, first + out.len())`, block by block.
+    /// `out` must not be empty.
     #[inline(always)]
     fn fill_by_rows(self, first: usize, out: &mut [i64])
         requires some { 0 < length out.old }
@@ -94,18 +94,20 @@ impl<'a> TakenLines<'a> {
     }
 }
 
-/// A block of lines, row after row: a row has one value of each.
+/// A block of lines, row after row: a row has one value of each line.
 #[derive(Clone, Copy, Drop)]
 struct Block<'a> {
+    /// Where the lines lie in the tensor.
     lines: Lines,
+    /// The values of the whole block.
     values: &'a [i64],
     ghost some: { 0 < lines.stride },
     ghost whole: { length values.now ≡ lines.stride * lines.length },
 }
 
 impl Block<'_> {
-    /// Writes the rows at numbers, the first of them from a column on, and tells how many values there
-    /// was room for.
+    /// Writes the rows at `numbers`, the first of them from `column` on, as far as `out` has room.
+    /// Returns how many values were written.
     #[inline(always)]
     fn take_from(self, numbers: &[i64], column: usize, out: &mut [i64]) -> usize
         requires column { column < self.lines.stride }
@@ -124,7 +126,8 @@ impl Block<'_> {
         count + self.take_rows(&numbers[1..], &mut out[count..])
     }
 
-    /// Writes the rows at numbers, and tells how many values there was room for.
+    /// Writes the rows at `numbers`, as far as `out` has room. Returns how many values were
+    /// written.
     #[inline(always)]
     fn take_rows(self, numbers: &[i64], out: &mut [i64]) -> usize
         ensures count { result ≡ min (self.entry.lines.stride * length numbers.now) (length out.old) }
@@ -148,7 +151,8 @@ impl Block<'_> {
         done
     }
 
-    /// Writes a part of the row at a number, from a column on: the first or the last of all.
+    /// Writes a part of the row at `number`, from `column` on. This is for the first and the last
+    /// row of a range; it is not inlined, unlike `put_row`.
     #[inline(never)]
     fn put_part(self, number: i64, column: usize, out: &mut [i64])
         requires inside { column + length out.old ≤ self.lines.stride }
@@ -159,7 +163,7 @@ impl Block<'_> {
         self.put_row(number, column, out);
     }
 
-    /// The same, as a part of the code around.
+    /// Writes a part of the row at `number`, from `column` on; zeroes if a line has no such number.
     #[inline(always)]
     fn put_row(self, number: i64, column: usize, out: &mut [i64])
         requires inside { column + length out.old ≤ self.lines.stride }
@@ -176,7 +180,7 @@ impl Block<'_> {
         }
     }
 
-    /// Where the row of a number begins, if it is one of a line's.
+    /// Returns where the row of `number` begins in the block; `None` if a line has no such number.
     #[inline(always)]
     fn row_of(self, number: i64) -> Option<usize>
         ensures { result ≡ row_of self.entry.lines number }
@@ -188,7 +192,8 @@ impl Block<'_> {
     }
 }
 
-/// Writes what a line has at each number, and tells how many there was room for.
+/// Writes the values of one line at `numbers`, as far as `out` has room. Returns how many values
+/// were written.
 #[inline(always)]
 fn take_each(line: &[i64], numbers: &[i64], out: &mut [i64]) -> usize
     ensures count { result ≡ min (length numbers.now) (length out.old) }

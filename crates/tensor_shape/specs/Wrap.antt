@@ -1,4 +1,4 @@
--- Numbers of the `i64` range.
+-- Wrapping into the `i64` range.
 use Rattle.std.specs.Prelude.{ℤ}
 use Rattle.std.specs.Int.{w64, int_wrap}
 

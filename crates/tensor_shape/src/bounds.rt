@@ -1,8 +1,10 @@
-//! How large dims may get.
+//! Limits on dims: a rank and an element count. A change of a limit touches `lib.rt`, `specs/Legal`
+//! (which has each number again) and what a request text may have.
 
 use crate::{MAX_ELEMENTS, MAX_RANK, TEXT_ELEMENTS};
 
-/// How large dims may get, where that is less far than all dims may.
+/// Limits on the rank and the element count of dims. `Dims::within` takes limits that are at most
+/// [`WIDEST`].
 #[derive(Clone, Copy, Debug, Eq, PartialEq)]
 pub struct Bounds {
     /// The highest rank.
@@ -11,7 +13,7 @@ pub struct Bounds {
     pub elements: u64,
 }
 
-/// As far as any dims may get.
+/// The limits of every `Dims`, wherever it comes from.
 pub const WIDEST: Bounds = Bounds {
     rank: MAX_RANK,
     elements: MAX_ELEMENTS,
@@ -19,9 +21,17 @@ pub const WIDEST: Bounds = Bounds {
 
 impl Bounds {
     ghost use Rattle.std.specs.Prelude.{◌≡◌};
-    ghost use Rattle.tensor_shape.specs.Legal.{text_bounds};
+    ghost use Rattle.tensor_shape.specs.Legal.{text_bounds, widest};
 
-    /// Those of a text whose ranks end there.
+    /// Returns [`WIDEST`], the limits of every `Dims`.
+    pub fn widest() -> Bounds
+        ensures { result ≡ widest }
+    {
+        WIDEST
+    }
+
+    /// Returns the limits of a request text: the given highest rank, and at most
+    /// [`TEXT_ELEMENTS`](crate::TEXT_ELEMENTS) elements.
     pub fn of_text(rank: usize) -> Bounds
         ensures { result ≡ text_bounds rank }
     {

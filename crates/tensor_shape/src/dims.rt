@@ -1,4 +1,5 @@
-//! Dims, seen as a list of numbers.
+//! `Dims`, which contracts see as its list of sizes, and its column-major places. A change of the
+//! layout touches `specs/Index`, and tensor_views and tensor_scans, which compute with strides too.
 
 ghost use Rattle.std.specs.Prelude.{◌≡◌, ◌<◌, ◌≤◌, ◌↔◌, ℕ, List, length, take, slice_index};
 ghost use Rattle.std.specs.Prelude.{Ok, Err, IsTrue, OnOk, IfOk};
@@ -8,11 +9,11 @@ ghost use Rattle.tensor_shape.specs.Legal.{text_bounds, bulk_of, IsPossible, IsW
 
 use crate::MAX_RANK;
 use crate::bounds::Bounds;
+use crate::shape_fault::ShapeFault;
 use arrayvec::ArrayVec;
 use std::marker::Model;
-use thiserror::Error;
 
-/// A number for each axis, held in place.
+/// One number for each axis, held in place without an allocation.
 pub type PerAxis = ArrayVec<u64, MAX_RANK>;
 
 /// The dimensions of a tensor, the fastest axis first. They are legal: the rank is at most
@@ -34,18 +35,9 @@ impl Model for Dims {
     ghost invariant = { λ d. IsLegal d.sizes.items };
 }
 
-/// Why dims are not legal.
-#[derive(Clone, Copy, Debug, Drop, Eq, PartialEq, Error)]
-pub enum ShapeFault {
-    #[error("the rank is too high")]
-    RankTooHigh = 1,
-    #[error("there are too many elements")]
-    TooManyElements = 2,
-}
-
 impl Dims {
-    /// Dims of these sizes, the fastest axis first, which get as large as those of a text may. Takes
-    /// no memory.
+    /// Returns dims of the given sizes, the fastest axis first, if they are within the limits of a
+    /// request text of rank [`MAX_RANK`](crate::MAX_RANK). Allocates nothing.
     pub fn new(sizes: &[u64]) -> Result<Dims, ShapeFault>
         ensures ok { IfOk result (λ dims. (dims ≡ sizes.now)
             × IsWithin (text_bounds highest_rank) sizes.now) }
@@ -56,7 +48,8 @@ impl Dims {
         Dims::within(Bounds::of_text(MAX_RANK), sizes)
     }
 
-    /// Dims of these sizes, the fastest axis first, within these bounds. Takes no memory.
+    /// Returns dims of the given sizes, the fastest axis first, if they are within `bounds`.
+    /// Allocates nothing.
     pub fn within(bounds: Bounds, sizes: &[u64]) -> Result<Dims, ShapeFault>
         requires { IsPossible bounds }
         ensures ok { IfOk result (λ dims. (dims ≡ sizes.now) × IsWithin bounds sizes.now) }
@@ -73,7 +66,7 @@ impl Dims {
         Ok(Dims { sizes: held(sizes) })
     }
 
-    /// The same dims, which takes no memory.
+    /// Returns a copy. Unlike `clone`, it allocates nothing and can't fail.
     pub fn copied(&self) -> Dims
         ensures { result ≡ self.now }
     {
@@ -81,7 +74,7 @@ impl Dims {
         Dims { sizes: held(sizes) }
     }
 
-    /// The sizes of the axes, the fastest first.
+    /// Returns the sizes of the axes, the fastest axis first.
     pub fn as_slice(&self) -> &[u64]
         ensures value { result.now ≡ self.now }
         ensures legal { IsLegal self.now }
@@ -89,7 +82,7 @@ impl Dims {
         self.sizes.as_slice()
     }
 
-    /// The number of axes.
+    /// Returns the number of axes.
     pub fn rank(&self) -> usize
         ensures value { result ≡ length self.now }
         ensures small { result ≤ highest_rank }
@@ -97,7 +90,7 @@ impl Dims {
         self.sizes.len()
     }
 
-    /// The size of one axis.
+    /// Returns the size of one axis.
     pub fn dim(&self, axis: usize) -> u64
         requires { axis < length self.now }
         ensures { result ≡ slice_index self.now axis }
@@ -105,7 +98,7 @@ impl Dims {
         self.sizes[axis]
     }
 
-    /// The number of elements.
+    /// Returns the number of elements: the product of the sizes, which is 1 at rank 0.
     pub fn size(&self) -> u64
         ensures value { result ≡ size_of self.now }
         ensures small { result ≤ most_elements }
@@ -113,7 +106,8 @@ impl Dims {
         product(self.sizes.as_slice())
     }
 
-    /// How far apart the places along an axis are: the product of the sizes before it.
+    /// Returns the distance between neighbouring places along an axis: the product of the sizes of
+    /// the axes before it.
     pub fn stride(&self, axis: usize) -> u64
         requires { axis < length self.now }
         ensures { result ≡ size_of (take axis self.now) }
@@ -121,14 +115,15 @@ impl Dims {
         product(&self.sizes.as_slice()[..axis])
     }
 
-    /// The stride of each axis, by which an index counts in a place. Takes no memory.
+    /// Returns the stride of each axis. Allocates nothing.
     pub fn strides(&self) -> PerAxis
         ensures { result.items ≡ strides_from 1 self.now }
     {
         strides_of(self.sizes.as_slice())
     }
 
-    /// The place of an index list, which has one index an axis, each below that axis's size.
+    /// Returns the place of an index list, which has one index for each axis, below the size of
+    /// that axis.
     pub fn linear(&self, index: &[u64]) -> u64
         requires { IsIndexOf self.now index.now }
         ensures value { result ≡ place self.now index.now }
@@ -138,7 +133,7 @@ impl Dims {
         place_of(self.sizes.as_slice(), index)
     }
 
-    /// The index list of a place. Takes no memory.
+    /// Returns the index list of a place. Allocates nothing.
     pub fn index_of(&self, linear: u64) -> PerAxis
         requires { linear < size_of self.now }
         ensures value { result.items ≡ index_of self.now linear }
@@ -149,7 +144,7 @@ impl Dims {
     }
 }
 
-/// The sizes, held in place.
+/// Copies the sizes into an in-place list.
 fn held(sizes: &[u64]) -> PerAxis
     requires { length sizes.now ≤ highest_rank }
     ensures { result.items ≡ sizes.now }
@@ -160,7 +155,7 @@ fn held(sizes: &[u64]) -> PerAxis
     }
 }
 
-/// Whether the product of the sizes, a 0 counted as 1, is within a limit.
+/// Whether the product of the sizes, a 0 counted as 1, is at most `limit`. No product overflows.
 fn holds_few(limit: u64, sizes: &[u64]) -> bool
     ensures { IsTrue result ↔ (bulk_of sizes.now ≤ limit) }
 {
@@ -175,7 +170,7 @@ fn holds_few(limit: u64, sizes: &[u64]) -> bool
     bulk <= limit
 }
 
-/// The product of sizes.
+/// Returns the product of the sizes, 1 for no sizes.
 fn product(sizes: &[u64]) -> u64
     requires { bulk_of sizes.now ≤ most_elements }
     ensures { result ≡ size_of sizes.now }
@@ -187,7 +182,8 @@ fn product(sizes: &[u64]) -> u64
     product
 }
 
-/// The place by Horner's rule, from the slowest axis: one multiplication an axis.
+/// Returns the place of an index list by Horner's rule, from the slowest axis: one multiplication
+/// for each axis.
 fn place_of(sizes: &[u64], index: &[u64]) -> u64
     requires legal { bulk_of sizes.now ≤ most_elements }
     requires index { IsIndexOf sizes.now index.now }
@@ -200,7 +196,7 @@ fn place_of(sizes: &[u64], index: &[u64]) -> u64
     place
 }
 
-/// The strides: each is the one before it times that one's size.
+/// Returns the strides: 1, and then each stride times the size of its axis.
 fn strides_of(sizes: &[u64]) -> PerAxis
     requires { IsLegal sizes.now }
     ensures { result.items ≡ strides_from 1 sizes.now }
@@ -214,7 +210,7 @@ fn strides_of(sizes: &[u64]) -> PerAxis
     strides
 }
 
-/// The index list of a place: the remainder by each size, and then the quotient.
+/// Returns the index list of a place: the remainder by each size, and then the quotient.
 fn index_at(sizes: &[u64], linear: u64) -> PerAxis
     requires rank { length sizes.now ≤ highest_rank }
     requires below { linear < size_of sizes.now }

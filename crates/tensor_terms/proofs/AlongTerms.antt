@@ -172,7 +172,7 @@ module _ (axis : ℕ) (ds : List ℕ) (lines : Lines) (inside : axis < length ds
       ∙ ap (λ js. taken_from (line_through lines (size_of es) (λ q. f (index_of ds q)) p) (h js))
       (sym (numbers-index axis ds es lines inside are p below))
 
--- the same of values that are given by their places
+-- the lines of values that are given by their places
 module _ (axis : ℕ) (ds : List ℕ) (lines : Lines) (inside : axis < length ds) (are : AreLinesAlong axis ds lines)
     (at : ℕ → ℤ) (f : List ℕ → ℤ) (same : (q : ℕ) → q < size_of ds → at q ≡ f (index_of ds q)) where
   line-at : (es : List ℕ) (p : ℕ) → p < size_of (replaced_dims axis es ds)
@@ -293,7 +293,7 @@ first_numbers-next lines width f p k = map-range_with_len_more (λ j. f (line_pl
 pub length-first_numbers : (lines : Lines) (width : ℕ) (f : ℕ → ℤ) (p k : ℕ) → length (first_numbers lines width f p k) ≡ k
 length-first_numbers lines width f p k = length-map-range_with_len (λ j. f (line_place lines width p j)) 0 k
 
--- what an operation gives at a place is that of so many
+-- the result of an operation at a place, from the first numbers of its line
 pub along_at-numbers : (o : LineOperation) (lines : Lines) (f : ℕ → ℤ) (p count : ℕ)
     → count ≡ (if is_cumulative o then number_at lines lines.length p + 1 else lines.length) → count ≤ lines.length
     → along_at o lines f p ≡ outcome o (first_numbers lines (width_of o lines.length) f p count)

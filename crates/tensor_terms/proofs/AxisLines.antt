@@ -146,7 +146,7 @@ module _ (axis : ℕ) (ds : List ℕ) (lines : Lines) (inside : axis < length ds
 
 module _ (axis : ℕ) (ds es : List ℕ) (lines : Lines) (inside : axis < length ds)
     (along : AreLinesAlong axis ds lines) where
-  -- a result with other dims in the place of the axis has a line of so many values for each
+  -- a result with other dims in the place of the axis has a line of as many values for each line
   pub values-replaced : size_of (replaced_dims axis es ds) ≡ line_values lines (size_of es)
   values-replaced =
       size_of-three (take axis ds) es (drop (axis + 1) ds) ∙ rw (along.stride, along.blocks) refl
@@ -156,7 +156,7 @@ module _ (axis : ℕ) (ds es : List ℕ) (lines : Lines) (inside : axis < length
     parts : InThree (take axis ds) es (drop (axis + 1) ds) p
     parts = in_three (take axis ds) es (drop (axis + 1) ds) p below
 
-    -- the axis comes behind so many
+    -- the number of axes before the axis
     behind_axes : length (take axis ds) ≡ axis
     behind_axes = length-take-le axis ds (omega arith)
 

@@ -77,7 +77,7 @@ padded-other ps ds f g long same is index =
       | inr outside ↦ rw outside refl
     ]
 
--- the pairs of the first so many axes, and none at the others
+-- the pairs of the first axes, and none at the others
 abbrev pub first_pads : ℕ → List (ℕ × ℕ) → List (ℕ × ℕ)
 first_pads zero [] = []
 first_pads zero (p ∷ ps) = (0, 0) ∷ first_pads zero ps

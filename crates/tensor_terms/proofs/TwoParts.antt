@@ -58,7 +58,7 @@ drop-index_of ds es p =
     ∙ ap (λ n. drop n (index_of ds p ++ index_of es (p / size_of ds))) (sym (length-index_of ds p))
     ∙ drop-append_seam (index_of ds p) (index_of es (p / size_of ds))
 
--- that of both places
+-- the index list of a place that is joined from two places
 pub index_of-joined : (ds es : List ℕ) (j i : ℕ) → j < size_of ds
     → index_of (ds ++ es) (j + size_of ds * i) ≡ index_of ds j ++ index_of es i
 index_of-joined ds es j i below =

@@ -87,7 +87,7 @@ get_or-window_index (x ∷ xs) (j ∷ js) is a other =
     get_or-set_other (window_index xs js is) x a (get_or is x 0 + j) 0 (eqb-false a x parts.0)
     ∙ get_or-window_index xs js is a parts.1
 
--- at one that is named, so many places are left
+-- the positions along an axis that the kernel has
 pub get_or-window_dims-at : (rank : ℕ) (axes ks ds : List ℕ) (j : ℕ) → rank ≡ length ds
     → are_axes rank axes ≡ true → length ks ≡ length axes → j < length axes
     → get_or (window_dims axes ks ds) (get_or axes j 0) 0

@@ -1,4 +1,4 @@
--- Contractions: sums of products over paired index lists.
+-- Contractions: sums of products over paired axes.
 use Rattle.std.specs.Prelude.{ℕ, ℤ, pos, ◌+ℤ◌, ◌*ℤ◌, ◌*◌}
 use Rattle.std.specs.Prelude.{List, ◌++◌, length, map, take, drop}
 use Rattle.std.specs.Prelude.{nat_eq, nat_le, ◌&&◌, Ok}
@@ -13,28 +13,29 @@ use Rattle.tensor_terms.specs.Merged.{dims_at, other_dims, merged, index_lists}
 use Rattle.tensor_terms.specs.declared.fault.ExprFault.TheVariants.{ShapeMismatch, OutOfRange}
 use Rattle.tensor_terms.specs.declared.fault.ExprFault.TheVariants.{TooLarge}
 
--- the paired axes of the first operand, and of the second
+-- the paired axes of the first operand
 abbrev pub firsts : List (ℕ × ℕ) → List ℕ
 firsts pairs = map (λ pair. pair.0) pairs
 
+-- the paired axes of the second operand
 abbrev pub seconds : List (ℕ × ℕ) → List ℕ
 seconds pairs = map (λ pair. pair.1) pairs
 
--- the most products that a contraction adds up
+-- the most products that a contraction or a convolution may sum, over all values of its result
 abbrev pub most_products : ℕ
 most_products = 1073741824
 
--- the first operand's other dims, and then the second's
+-- the first operand's other dims, followed by the second operand's other dims
 abbrev pub outer_dims : List (ℕ × ℕ) → List ℕ → List ℕ → List ℕ
 outer_dims pairs ds es = other_dims (firsts pairs) ds ++ other_dims (seconds pairs) es
 
--- dims whose elements are sums of so many products
+-- result dims whose values are sums of `count` products each, or the fault that these are too many
 abbrev pub few_products : ℕ → List ℕ → Shaped
 few_products count ds = check (nat_le (size_of ds * count) most_products) TooLarge (Ok ds)
 
--- the result dims of a contraction within bounds, or the first of its own faults. Operands and a
--- result of at most 1,048,576 elements have no more products than may be, so that the last check
--- finds nothing there
+-- the result dims of a contraction within bounds, or the fault of the first check that fails. If
+-- the operands and the result have at most 1,048,576 elements, the check of the products always
+-- passes
 abbrev pub contracted_dims : Bounds → List (ℕ × ℕ) → List ℕ → List ℕ → Shaped
 contracted_dims bounds pairs ds es =
     check (are_axes (length ds) (firsts pairs) && are_axes (length es) (seconds pairs)) OutOfRange

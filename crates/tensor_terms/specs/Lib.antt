@@ -5,6 +5,7 @@ pub mod Contents
 pub mod Contraction
 pub mod Convolution
 pub mod Cursor
+pub mod Facts
 pub mod Freed
 pub mod Movement
 pub mod Padding

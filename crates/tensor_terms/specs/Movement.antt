@@ -1,4 +1,4 @@
--- Movements: their result dims, and which index list of the operand they read.
+-- Movements: their result dims, and the index list of the operand that they read.
 use Rattle.std.specs.Prelude.{ℕ, zero, suc, ◌+◌, ◌-◌, ◌*◌, ◌%◌, List, [], ◌∷◌, length, map}
 use Rattle.std.specs.Prelude.{slice_index, slice_set, insert, remove, nat_eq, nat_lt, nat_le}
 use Rattle.std.specs.Prelude.{Bool, true, false, ◌&&◌, ◌||◌, Ok, if◌then◌else◌}
@@ -11,11 +11,11 @@ use Rattle.tensor_terms.specs.Term.{stride}
 use Rattle.tensor_terms.specs.Zipped.{zip_with}
 use Rattle.tensor_terms.specs.declared.fault.ExprFault.TheVariants.{ShapeMismatch, OutOfRange}
 
--- each number modulo its dimension
+-- each index modulo its dimension
 abbrev pub wrapped : List ℕ → List ℕ → List ℕ
 wrapped ds is = zip_with (λ d i. i % d) ds is
 
--- each number, and its offset on top
+-- each index plus its offset
 abbrev pub offset_by : List ℕ → List ℕ → List ℕ
 offset_by os is = zip_with (λ o i. i + o) os is
 
@@ -24,16 +24,16 @@ abbrev pub scattered : List ℕ → List ℕ → List ℕ → List ℕ
 scattered (s ∷ ss) (i ∷ is) js = slice_set (scattered ss is js) s i
 scattered axes is js = js
 
--- each number, or where its axis is flagged what is left above it
+-- each index, mirrored at the axes whose flag is set
 abbrev pub mirrored : List Bool → List ℕ → List ℕ → List ℕ
 mirrored (f ∷ fs) (d ∷ ds) (i ∷ is) = (if f then d - 1 - i else i) ∷ mirrored fs ds is
 mirrored flags ds is = []
 
--- each number times its step
+-- each index times its step
 abbrev pub scaled : List ℕ → List ℕ → List ℕ
 scaled ss is = zip_with (λ s i. i * s) ss is
 
--- the index list of the operand, of these dims, that is read for one of the result
+-- the index list of an operand of dims ds that a movement reads for an index list of the result
 abbrev pub moved : Movement → List ℕ → List ℕ → List ℕ
 moved (broadcast counts) ds is = zip_with (λ d i. i % d) ds is
 moved (slice offsets extents) ds is = zip_with (λ o i. i + o) offsets is
@@ -43,24 +43,24 @@ moved (chip offset axis) ds is = insert is axis offset
 moved (reverse flags) ds is = mirrored flags ds is
 moved (stride steps) ds is = zip_with (λ s i. i * s) steps is
 
--- each dimension so many times
+-- each dimension times its count
 abbrev pub repeated_dims : List ℕ → List ℕ → List ℕ
 repeated_dims ds counts = zip_with (λ d c. d * c) ds counts
 
--- the dimensions in another order
+-- the dimensions at axes, in the order of the axes
 abbrev pub shuffled_dims : List ℕ → List ℕ → List ℕ
 shuffled_dims ds order = map (λ s. slice_index ds s) order
 
--- how many numbers of each dimension are multiples of its step: the quotient, rounded up
+-- how many indices of each dimension are multiples of its step: the quotient, rounded up
 abbrev pub strided_dims : List ℕ → List ℕ → List ℕ
 strided_dims ds steps = zip_with (λ d s. div_ceil d s) ds steps
 
--- whether none is 0
+-- whether no number is 0
 abbrev pub none_is_zero : List ℕ → Bool
 none_is_zero [] = true
 none_is_zero (c ∷ cs) = nat_lt 0 c && none_is_zero cs
 
--- whether each offset and its extent stay within the dimension
+-- whether each offset plus its extent is at most the dimension
 abbrev pub fit_within : List ℕ → List ℕ → List ℕ → Bool
 fit_within (d ∷ ds) (o ∷ os) (e ∷ es) = nat_le (o + e) d && fit_within ds os es
 fit_within ds offsets extents = true
@@ -70,13 +70,12 @@ abbrev pub is_among : ℕ → List ℕ → Bool
 is_among n [] = false
 is_among n (s ∷ ss) = nat_eq n s || is_among n ss
 
--- whether all numbers below n are in a list; one of n numbers is then a permutation of them
+-- whether all numbers below n are in a list; a list of n numbers is then a permutation of them
 abbrev pub has_all_below : ℕ → List ℕ → Bool
 has_all_below zero ss = true
 has_all_below (suc n) ss = is_among n ss && has_all_below n ss
 
--- the result dims of a movement of an operand of these dims, within bounds, or the first of its
--- own faults
+-- the result dims of a movement within bounds, or the fault of the first check that fails
 abbrev pub moved_dims : Bounds → Movement → List ℕ → Shaped
 moved_dims bounds (broadcast counts) ds = check_lengths counts ds
     (check (none_is_zero counts) OutOfRange (legal_dims bounds (zip_with (λ d c. d * c) ds counts)))

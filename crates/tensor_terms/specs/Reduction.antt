@@ -8,17 +8,17 @@ use Rattle.tensor_terms.specs.Merged.{among, dims_at, other_dims, merged, index_
 use Rattle.tensor_terms.specs.declared.fault.ExprFault.TheVariants.{OutOfRange}
 use Rattle.tensor_values.specs.declared.reducer.Reducer.{Reducer}
 
--- whether all of these axes are below the rank, and none stands twice
+-- whether each axis is below the rank and no axis appears twice
 abbrev pub are_axes : ℕ → List ℕ → Bool
 are_axes rank [] = true
 are_axes rank (x ∷ xs) = nat_lt x rank && (not (is_among x xs) && are_axes rank xs)
 
--- the result dims of a reduction over axes, or its own fault
+-- the result dims of a reduction over axes, or the fault of its check
 abbrev pub reduced_dims : List ℕ → List ℕ → Shaped
 reduced_dims axes ds = check (are_axes (length ds) axes) OutOfRange (Ok (other_dims axes ds))
 
--- the value of a reduction at an index list: the combination of the operand's over all index lists
--- of the dropped axes, in order of their places
+-- the value of a reduction at an index list: the operand's values over all index lists of the
+-- dropped axes, combined in order of their places
 abbrev pub reduced : Reducer → List ℕ → List ℕ → (List ℕ → ℤ) → List ℕ → ℤ
 reduced r axes ds a is =
     combination r (map (λ js. a (merged (among axes (length ds)) ds js is))

@@ -17,8 +17,8 @@ use Rattle.tensor_terms.specs.Term.{Unary, each, constant, movement, pad, reduce
 use Rattle.tensor_terms.specs.Term.{Binary, pairwise, concat, contract, convolve, taking}
 use Rattle.tensor_terms.specs.Term.{Ternary, select}
 
--- what an operation says of the dims of its operands: its own dims within bounds, or the first of
--- its own faults
+-- the result dims of an operation on one tensor within bounds, or the fault of its first check that
+-- fails
 abbrev pub unary_dims : Bounds → Unary → List ℕ → Shaped
 unary_dims bounds (each o) d = Ok d
 unary_dims bounds (constant v) d = Ok d
@@ -27,6 +27,8 @@ unary_dims bounds (pad pairs) d = pad_dims bounds pairs d
 unary_dims bounds (reduce r axes) d = reduced_dims axes d
 unary_dims bounds (along o axis) d = along_dims o axis d
 
+-- the result dims of an operation on two tensors within bounds, or the fault of its first check
+-- that fails
 abbrev pub binary_dims : Bounds → Binary → List ℕ → List ℕ → Shaped
 binary_dims bounds (pairwise o) d e = equal_dims d e
 binary_dims bounds (concat axis) d e = concatenated_dims bounds axis d e
@@ -34,11 +36,12 @@ binary_dims bounds (contract pairs) d e = contracted_dims bounds pairs d e
 binary_dims bounds (convolve axes) d e = convolved_dims axes d e
 binary_dims bounds (taking axis) d e = taken_dims bounds axis d e
 
+-- the result dims of an operation on three tensors, or the fault of its first check that fails
 abbrev pub ternary_dims : Ternary → List ℕ → List ℕ → List ℕ → Shaped
 ternary_dims select c d e = with_one (λ both. equal_dims both e) (equal_dims c d)
 
--- operands are looked at from the left, each wholly, and then the operation's own checks are made.
--- All results are within bounds
+-- the result dims of a term, or its first fault. Operands are checked from the left, each
+-- completely, before the operation itself. The result of each node is within bounds
 abbrev pub dims_of : Bounds → Term → List Contents → Shaped
 dims_of bounds (input n) inputs = Ok (input_of inputs n).dims
 dims_of bounds (unary o a) inputs = with_one (unary_dims bounds o) (dims_of bounds a inputs)
@@ -48,7 +51,7 @@ dims_of bounds (ternary o a b c) inputs =
     with_one (λ d. with_one (λ e. with_one (ternary_dims o d e) (dims_of bounds c inputs))
     (dims_of bounds b inputs)) (dims_of bounds a inputs)
 
--- the dims of a term's operands, or their faults
+-- the result dims of each operand of a term, or its fault
 abbrev pub operand_dims : Bounds → Term → List Contents → List Shaped
 operand_dims bounds (input n) inputs = []
 operand_dims bounds (unary o a) inputs = dims_of bounds a inputs ∷ []
@@ -56,6 +59,6 @@ operand_dims bounds (binary o a b) inputs = dims_of bounds a inputs ∷ dims_of 
 operand_dims bounds (ternary o a b c) inputs =
     dims_of bounds a inputs ∷ dims_of bounds b inputs ∷ dims_of bounds c inputs ∷ []
 
--- the result dims, where there are any and dims go as far as they may
+-- the result dims of a term within the widest bounds; no dims if it has a fault
 abbrev pub shape_of : Term → List Contents → List ℕ
 shape_of t inputs = result_unwrap_or (dims_of widest t inputs) []

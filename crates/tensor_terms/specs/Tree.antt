@@ -1,4 +1,4 @@
--- The term of an expression, and of the view of its operation.
+-- The term of an expression, and the term of its view by `Node`.
 use Rattle.tensor_terms.specs.Term.{Term, input, unary, binary, ternary, Movement}
 use Rattle.tensor_terms.specs.Term.{broadcast, slice, shuffle, reshape, chip, reverse, stride}
 use Rattle.tensor_terms.specs.Term.{Unary, each, constant, movement, pad, reduce, along}
@@ -21,6 +21,7 @@ use Rattle.tensor_values.specs.declared.operations.UnaryScalar.TheVariants as un
 use Rattle.tensor_values.specs.declared.operations.BinaryScalar.TheVariants as binary_scalar
 use Rattle.tensor_values.specs.declared.reducer.Reducer.TheVariants as reducer
 
+-- the term of an expression
 abbrev pub term_of : Expr → Term
 term_of (expr.Input n) = input n
 term_of (expr.Neg' p a) = unary (each unary_scalar.Neg) (term_of a)
@@ -78,7 +79,7 @@ term_of (expr.Argmax' p a axis) = unary (along line_operation.Argmax axis) (term
 term_of (expr.Argmin' p a axis) = unary (along line_operation.Argmin axis) (term_of a)
 term_of (expr.Take' p a q b axis) = binary (taking axis) (term_of a) (term_of b)
 
--- the operations of a view, without their borrows
+-- the movement of a view
 abbrev pub movement_at : MovementView → Movement
 movement_at (move.Broadcast counts) = broadcast counts.now
 movement_at (move.Slice offsets extents) = slice offsets.now extents.now
@@ -88,6 +89,7 @@ movement_at (move.Chip offset axis) = chip offset axis
 movement_at (move.Reverse flags) = reverse flags.now
 movement_at (move.Stride steps) = stride steps.now
 
+-- the operation on one tensor of a view
 abbrev pub unary_at : UnaryView → Unary
 unary_at (one.Each o) = each o
 unary_at (one.Constant v) = constant v
@@ -96,6 +98,7 @@ unary_at (one.Pad pairs) = pad pairs.now
 unary_at (one.Reduce r axes) = reduce r axes.now
 unary_at (one.Along o axis) = along o axis
 
+-- the operation on two tensors of a view
 abbrev pub binary_at : BinaryView → Binary
 binary_at (two.Pairwise o) = pairwise o
 binary_at (two.Concat axis) = concat axis
@@ -103,6 +106,7 @@ binary_at (two.Contract pairs) = contract pairs.now
 binary_at (two.Convolve axes) = convolve axes.now
 binary_at (two.Take axis) = taking axis
 
+-- the operation on three tensors of a view
 abbrev pub ternary_at : TernaryView → Ternary
 ternary_at three.Select = select
 

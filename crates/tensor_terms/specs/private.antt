@@ -1,2 +1,2 @@
--- What private clauses and proofs of this crate cite, and no other crate.
+-- What only this crate's private clauses and proofs cite.
 pub mod Pairing

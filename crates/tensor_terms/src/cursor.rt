@@ -1,4 +1,6 @@
-//! The value of an expression at one place.
+//! The value of an expression at one place, as the definition `value` says (`specs/Value`). It is
+//! slow: request_cases compares the evaluation by ranges with it. A new variant of `Node` needs an
+//! arm of `value_at`.
 
 ghost use Rattle.std.specs.Prelude.{◌≡◌, ◌<◌, ◌≤◌, ◌+◌, List, ℕ, length, IsTrue, IsOk};
 ghost use Rattle.std.specs.Prelude.{ℤ, pos, slice_index_or, if◌then◌else◌, IfSome, IsNone};
@@ -27,8 +29,8 @@ use tensor_scans::{LineOperation, Lines, Progress};
 use tensor_shape::{Dims, PerAxis, WIDEST};
 use tensor_values::{BinaryScalar, Reducer, applied, combined, is_true};
 
-/// An expression that has result dims, over its inputs. It gives one value at a time and takes no
-/// memory.
+/// A reader of single values of an expression that has result dims, over its inputs. Allocates
+/// nothing. Each value is computed anew from the inputs.
 #[derive(Drop)]
 pub struct Cursor<'a> {
     expr: &'a Expr,
@@ -40,19 +42,19 @@ pub struct Cursor<'a> {
 impl<'a> Cursor<'a> {
     ghost use Rattle.tensor_terms.specs.Cursor.{term_under, inputs_under};
 
-    /// A cursor over an expression.
+    /// Returns a cursor over an expression.
     pub fn of(expr: &'a Expr, inputs: &'a Inputs<'a>) -> Cursor<'a>
         requires inputs { IsTrue (has_inputs (term_of expr.now) (length inputs.now.tensors)) }
         requires dims { IsOk (dims_of inputs.now.bounds (term_of expr.now) inputs.now.tensors) }
         ensures term { term_under result ≡ term_of expr.now }
         ensures inputs { inputs_under result ≡ inputs.now.tensors }
     {
-        // Says that dims can go as far as the inputs' bounds.
+        // The contract of `bounds` says that the bounds are possible; `has_dims` needs this.
         let _limit = inputs.bounds();
         Cursor { expr, inputs }
     }
 
-    /// The value at a place of the result, which is that at the index list of the place.
+    /// Returns the value at a place of the result.
     pub fn value(&self, linear: u64) -> i64
         requires { linear < size_of (shape_of (term_under self.now) (inputs_under self.now)) }
         ensures { (index : List ℕ)
@@ -64,7 +66,7 @@ impl<'a> Cursor<'a> {
     }
 }
 
-/// The value at a place, down the tree.
+/// Returns the value of an expression at a place, by recursion down the tree.
 #[cycle(value)]
 fn value_at(expr: &Expr, inputs: &Inputs, place: u64) -> i64
     requires inputs { IsTrue (has_inputs (term_of expr.now) (length inputs.now.tensors)) }
@@ -106,7 +108,8 @@ fn value_at(expr: &Expr, inputs: &Inputs, place: u64) -> i64
     }
 }
 
-/// The value of a reduction at a place: those of its operand along the dropped axes, combined.
+/// Returns the value of a reduction at a place: the operand's values along the dropped axes,
+/// combined.
 #[cycle(value)]
 fn reduced_at(reducer: Reducer, axes: &[u64], a: &Expr, inputs: &Inputs, place: u64) -> i64
     requires inputs { IsTrue (has_inputs (term_of a.now) (length inputs.now.tensors)) }
@@ -128,7 +131,7 @@ fn reduced_at(reducer: Reducer, axes: &[u64], a: &Expr, inputs: &Inputs, place: 
     value
 }
 
-/// The value of a contraction at a place: the products along the paired axes, added up.
+/// Returns the value of a contraction at a place: the sum of the products along the paired axes.
 #[cycle(value)]
 fn contracted_at(pairs: &[(u64, u64)], a: &Expr, b: &Expr, inputs: &Inputs, place: u64) -> i64
     requires inputs_a { IsTrue (has_inputs (term_of a.now) (length inputs.now.tensors)) }
@@ -154,7 +157,7 @@ fn contracted_at(pairs: &[(u64, u64)], a: &Expr, b: &Expr, inputs: &Inputs, plac
     value
 }
 
-/// The value of a pad at a place: its operand's, or 0 outside of that.
+/// Returns the value of a pad at a place: the operand's value, or 0 outside the operand.
 #[cycle(value)]
 fn padded_at(pairs: &[(u64, u64)], a: &Expr, inputs: &Inputs, place: u64) -> i64
     requires inputs { IsTrue (has_inputs (term_of a.now) (length inputs.now.tensors)) }
@@ -171,7 +174,8 @@ fn padded_at(pairs: &[(u64, u64)], a: &Expr, inputs: &Inputs, place: u64) -> i64
     }
 }
 
-/// The value of a concatenation at a place: the first operand's, or past its part the second's.
+/// Returns the value of a concatenation at a place: a value of the first operand, or of the second
+/// operand behind it.
 #[cycle(value)]
 fn concatenated_at(axis: u64, a: &Expr, b: &Expr, inputs: &Inputs, place: u64) -> i64
     requires inputs_a { IsTrue (has_inputs (term_of a.now) (length inputs.now.tensors)) }
@@ -192,7 +196,7 @@ fn concatenated_at(axis: u64, a: &Expr, b: &Expr, inputs: &Inputs, place: u64) -
     }
 }
 
-/// The value of a convolution at a place: the products along the kernel's places, added up.
+/// Returns the value of a convolution at a place: the sum of the products over the kernel's places.
 #[cycle(value)]
 fn convolved_at(axes: &[u64], a: &Expr, b: &Expr, inputs: &Inputs, place: u64) -> i64
     requires inputs_a { IsTrue (has_inputs (term_of a.now) (length inputs.now.tensors)) }
@@ -217,8 +221,8 @@ fn convolved_at(axes: &[u64], a: &Expr, b: &Expr, inputs: &Inputs, place: u64) -
     value
 }
 
-/// The value of an operation along an axis at a place: what those values of a line give that it is
-/// of.
+/// Returns the value of an operation along an axis at a place, from the values of the line that the
+/// place belongs to.
 #[cycle(value)]
 fn along_at(along: (LineOperation, u64), a: &Expr, inputs: &Inputs, place: u64) -> i64
     requires inputs { IsTrue (has_inputs (term_of a.now) (length inputs.now.tensors)) }
@@ -242,7 +246,8 @@ fn along_at(along: (LineOperation, u64), a: &Expr, inputs: &Inputs, place: u64) 
     progress.outcome(operation)
 }
 
-/// How many values of its line the value at a place is of.
+/// Returns how many values of its line the value at a place depends on: those up to the place for a
+/// cumulative operation, else all.
 fn values_up_to(operation: LineOperation, lines: Lines, place: usize) -> usize
     requires { place < line_values lines (width_of operation lines.length) }
     ensures count { result ≡ if is_cumulative operation
@@ -256,7 +261,8 @@ fn values_up_to(operation: LineOperation, lines: Lines, place: usize) -> usize
     }
 }
 
-/// The value of a take at a place: the first operand's at the number that the second has there.
+/// Returns the value of a take at a place: the first operand's value at the number along the axis
+/// that the second operand holds; 0 if there is no such number.
 #[cycle(value)]
 fn taken_at(axis: u64, operands: (&Expr, &Expr), inputs: &Inputs, place: u64) -> i64
     requires inputs_a { IsTrue (has_inputs (term_of operands.0.now) (length inputs.now.tensors)) }
@@ -282,7 +288,7 @@ fn taken_at(axis: u64, operands: (&Expr, &Expr), inputs: &Inputs, place: u64) ->
     }
 }
 
-/// Which of the numbers of a line, which has so many, a value is.
+/// Returns `value` as a number of a line of `count` values; `None` if the line has no such number.
 fn number_within(value: i64, count: usize) -> Option<usize>
     ensures some { IfSome result (λ k.
         (line : List ℤ) → taken_from line value ≡ slice_index_or line k (pos 0)) }
@@ -297,23 +303,27 @@ fn number_within(value: i64, count: usize) -> Option<usize>
     }
 }
 
-/// What a contraction adds up over: both operands' dims and their paired axes.
+/// What a contraction sums over: the dims and the paired axes of both operands.
 #[derive(Drop)]
 struct Pairing {
+    /// The dims of the first operand.
     first: Dims,
+    /// The dims of the second operand.
     second: Dims,
+    /// The paired axes of the first operand.
     firsts: PerAxis,
+    /// The paired axes of the second operand.
     seconds: PerAxis,
-    /// How many index lists there are along the paired axes.
+    /// The number of index lists along the paired axes.
     count: u64,
-    /// How many there are along the first operand's others.
+    /// The number of index lists along the first operand's other axes.
     outer: u64,
 }
 
 impl Pairing {
     ghost use Rattle.tensor_terms.specs.private.Pairing.{IsPairing};
 
-    /// Of a contraction that has result dims.
+    /// Returns the pairing of a contraction that has result dims.
     fn of(pairs: &[(u64, u64)], a: &Expr, b: &Expr, inputs: &Inputs) -> Pairing
         requires inputs_a { IsTrue (has_inputs (term_of a.now) (length inputs.now.tensors)) }
         requires inputs_b { IsTrue (has_inputs (term_of b.now) (length inputs.now.tensors)) }
@@ -337,7 +347,7 @@ impl Pairing {
     }
 }
 
-/// The dims of an expression that has some.
+/// Returns the dims of an expression that has result dims.
 fn known_dims(expr: &Expr, inputs: &Inputs) -> Dims
     requires inputs { IsTrue (has_inputs (term_of expr.now) (length inputs.now.tensors)) }
     requires dims { IsOk (dims_of widest (term_of expr.now) inputs.now.tensors) }

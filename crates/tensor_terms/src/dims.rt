@@ -1,4 +1,6 @@
-//! Result dims: of each kind of operation, and of whole expressions.
+//! Result dims: a module for each kind of operation, and one for whole expressions. The order of
+//! the checks decides the first fault, which the definitions in `specs/` fix and fault_reasons
+//! explains.
 
 pub(crate) mod along_dims;
 pub(crate) mod concatenation_dims;

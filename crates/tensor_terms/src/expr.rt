@@ -1,5 +1,7 @@
-//! Expressions: a variant for each operation.
+//! Expressions: one variant for each operation. A new variant needs a line of `term_of`
+//! (`specs/Tree`) and an arm of `Expr::node`; the other crates see expressions through `Node`.
 
+mod facts;
 pub(crate) mod node;
 pub(crate) mod rebuilt;
 
@@ -12,117 +14,129 @@ use std::alloc::Global;
 use tensor_scans::LineOperation;
 use tensor_values::{BinaryScalar, Reducer, UnaryScalar};
 
-/// A tree of operations over inputs, a variant an operation. Values are of the `i64` range, and
-/// operations on them are modulo 2^64. A value is true where it isn't 0; true is written as 1.
+/// A tree of operations over inputs, with one variant for each operation. Values are 64-bit signed
+/// integers, and results are taken modulo 2^64. A value is true if it isn't 0. Comparisons and
+/// logical operations give 1 for true and 0 for false. The operands of an operation on two or three
+/// tensors value by value have equal dims.
 pub enum Expr {
-    /// The input of this number.
+    /// The input with this number, counted from 0.
     Input(u32),
-    /// Each value, negated.
+    /// Each value negated.
     Neg(Box<Expr>),
-    /// The absolute value of each.
+    /// The absolute value of each value.
     Abs(Box<Expr>),
-    /// Each value times itself.
+    /// The square of each value.
     Square(Box<Expr>),
     /// Whether each value is 0.
     Not(Box<Expr>),
-    /// The bits that each value hasn't.
+    /// The bitwise complement of each value.
     BitNot(Box<Expr>),
-    /// The sum of two tensors of equal dims, value by value.
+    /// The sum of two values.
     Add(Box<Expr>, Box<Expr>),
-    /// The first less the second.
+    /// The first value less the second.
     Sub(Box<Expr>, Box<Expr>),
-    /// The product.
+    /// The product of two values.
     Mul(Box<Expr>, Box<Expr>),
     /// The greater of two values.
     CwiseMax(Box<Expr>, Box<Expr>),
     /// The lesser of two values.
     CwiseMin(Box<Expr>, Box<Expr>),
-    /// Whether the first is below the second.
+    /// Whether the first value is below the second.
     Lt(Box<Expr>, Box<Expr>),
-    /// Whether the first is at most the second.
+    /// Whether the first value is at most the second.
     Le(Box<Expr>, Box<Expr>),
-    /// Whether both are equal.
+    /// Whether two values are equal.
     Eq(Box<Expr>, Box<Expr>),
-    /// Whether both are not equal.
+    /// Whether two values differ.
     Ne(Box<Expr>, Box<Expr>),
-    /// Whether the first is above the second.
+    /// Whether the first value is above the second.
     Gt(Box<Expr>, Box<Expr>),
-    /// Whether the first is at least the second.
+    /// Whether the first value is at least the second.
     Ge(Box<Expr>, Box<Expr>),
-    /// Whether both are true.
+    /// Whether both values are true.
     And(Box<Expr>, Box<Expr>),
-    /// Whether one is true.
+    /// Whether at least one of two values is true.
     Or(Box<Expr>, Box<Expr>),
-    /// The first divided by the second, rounded down; by 0 it is 0.
+    /// The first value divided by the second, rounded down; 0 if the second is 0.
     FloorDivide(Box<Expr>, Box<Expr>),
-    /// What that leaves, of the second's sign; by 0 it is 0.
+    /// The remainder of that division, which has the sign of the second value; 0 if the second is
+    /// 0.
     Remainder(Box<Expr>, Box<Expr>),
-    /// The bits that both have.
+    /// The bitwise and of two values.
     BitAnd(Box<Expr>, Box<Expr>),
-    /// The bits that one has.
+    /// The bitwise or of two values.
     BitOr(Box<Expr>, Box<Expr>),
-    /// The bits that one alone has.
+    /// The bitwise exclusive or of two values.
     BitXor(Box<Expr>, Box<Expr>),
-    /// The first times two, as often as the second says; 0 where it says less than 0 or more than 63.
+    /// The first value shifted left by the second, x * 2^y; 0 if y is below 0 or above 63.
     ShiftLeft(Box<Expr>, Box<Expr>),
-    /// The first divided by two, rounded down, as often; by all 64 places where it says less than 0 or
-    /// more than 63.
+    /// The first value shifted right by the second, x / 2^y rounded down. If y is below 0 or above
+    /// 63, the result is 0, or -1 for a negative x.
     ShiftRight(Box<Expr>, Box<Expr>),
-    /// The second's value where the first's is true, and else the third's; three of equal dims.
+    /// The second operand's value where the first operand's value is true, else the third
+    /// operand's.
     Select(Box<Expr>, Box<Expr>, Box<Expr>),
-    /// This value everywhere.
+    /// This value at each place of the operand's dims.
     Constant(Box<Expr>, i64),
-    /// The operand, so many times along each axis.
+    /// The operand repeated along each axis, by the count given for that axis.
     Broadcast(Box<Expr>, Vec<u64>),
-    /// The part that starts at these offsets and has these extents.
+    /// The part of the operand that begins at these offsets and has these extents, one for each
+    /// axis.
     Slice(Box<Expr>, Vec<u64>, Vec<u64>),
-    /// The operand with its axes in this order.
+    /// The operand with its axes in this order: axis k of the result is axis `order[k]` of the
+    /// operand.
     Shuffle(Box<Expr>, Vec<u64>),
-    /// The values, in order of their places, over dims of these sizes.
+    /// The operand's values in order of their places, over dims of these sizes.
     Reshape(Box<Expr>, Vec<u64>),
-    /// What stands at this offset along this axis, which is gone then.
+    /// The slice at an offset along an axis, which the result lacks: first the offset, then the
+    /// axis.
     Chip(Box<Expr>, u64, u64),
-    /// The operand, reversed along the axes that are flagged.
+    /// The operand reversed along each axis whose flag is set.
     Reverse(Box<Expr>, Vec<bool>),
-    /// What stands at the multiples of these steps, an axis each, from 0 on.
+    /// Every step-th value along each axis, beginning at index 0; one step for each axis.
     Stride(Box<Expr>, Vec<u64>),
-    /// The operand with so many zeroes before and behind it, along each axis.
+    /// The operand with zeroes before and after it along each axis: one pair of counts for each
+    /// axis.
     Pad(Box<Expr>, Vec<(u64, u64)>),
-    /// The second behind the first along this axis; the other dimensions are equal.
+    /// The first operand followed by the second along this axis. Their other dimensions are equal.
     Concat(Box<Expr>, Box<Expr>, u64),
-    /// The sum of the values along these axes, which are gone then.
+    /// The sum of the values along these axes, which the result lacks.
     Sum(Box<Expr>, Vec<u64>),
-    /// Their product.
+    /// The product of the values along these axes, which the result lacks.
     Prod(Box<Expr>, Vec<u64>),
-    /// The greatest of them.
+    /// The greatest value along these axes, which the result lacks; the least `i64` if there are
+    /// none.
     Maximum(Box<Expr>, Vec<u64>),
-    /// The least of them.
+    /// The least value along these axes, which the result lacks; the greatest `i64` if there are
+    /// none.
     Minimum(Box<Expr>, Vec<u64>),
-    /// Whether all of them are true.
+    /// Whether all values along these axes, which the result lacks, are true.
     All(Box<Expr>, Vec<u64>),
-    /// Whether one of them is true.
+    /// Whether at least one value along these axes, which the result lacks, is true.
     Any(Box<Expr>, Vec<u64>),
-    /// The sums of products along paired axes, an axis of the first and one of the second, which
-    /// are gone then. The first's other axes come before the second's.
+    /// The sums of products along pairs of axes, an axis of the first operand and one of the
+    /// second. The result has the first operand's other axes and then the second operand's.
     Contract(Box<Expr>, Box<Expr>, Vec<(u64, u64)>),
-    /// The sums of products of a kernel, the second, and what lies under it at each place where it
-    /// stays within the first. These axes of the first are those of the kernel, in their order.
+    /// The sums of products of the kernel, which is the second operand, and the values under it, at
+    /// each position where the kernel lies within the first operand. `axes[k]` is the axis of the
+    /// first operand along which axis k of the kernel lies. The kernel is not reversed.
     Convolve(Box<Expr>, Box<Expr>, Vec<u64>),
-    /// The sum of each value and those before it along this axis.
+    /// The sum of each value and all values before it along this axis.
     Cumsum(Box<Expr>, u64),
-    /// Their product.
+    /// The product of each value and all values before it along this axis.
     Cumprod(Box<Expr>, u64),
-    /// The first index along this axis where the greatest value stands, 0 where there are none; the
-    /// axis is gone then.
+    /// The first index along this axis at which the greatest value stands; 0 if the axis has size
+    /// 0. The result lacks the axis.
     Argmax(Box<Expr>, u64),
-    /// The same of the least.
+    /// The first index along this axis at which the least value stands; 0 if the axis has size 0.
+    /// The result lacks the axis.
     Argmin(Box<Expr>, u64),
-    /// What stands in the first at the indices along this axis that the second has, whose axes take
-    /// its place; 0 for an index that the axis hasn't.
+    /// The first operand's values at the indices along this axis that the second operand holds; 0
+    /// for an index outside the axis. The second operand's axes take the place of this axis.
     Take(Box<Expr>, Box<Expr>, u64),
 }
 
-// Said once, where a derived drop is unfolded wherever one may be dropped.
+// One `drop` for all variants: the prover unfolds a derived one wherever an expression is dropped.
 impl Drop for Expr {
     fn drop(self) {
         match self {
@@ -181,7 +195,7 @@ impl Drop for Expr {
 }
 
 impl Expr {
-    /// An operation on each value.
+    /// Returns an operation on each value.
     pub fn each(operation: UnaryScalar, operand: Box<Expr>) -> Expr
         ensures { term_of result ≡ unary (each operation) (term_of operand.value) }
     {
@@ -194,7 +208,7 @@ impl Expr {
         }
     }
 
-    /// An operation on each two values of two tensors of equal dims.
+    /// Returns an operation on the values of two tensors of equal dims, value by value.
     pub fn pairwise(operation: BinaryScalar, left: Box<Expr>, right: Box<Expr>) -> Expr
         ensures { term_of result
             ≡ binary (pairwise operation) (term_of left.value) (term_of right.value) }
@@ -223,7 +237,7 @@ impl Expr {
         }
     }
 
-    /// A reduction over axes.
+    /// Returns a reduction over axes.
     pub fn reduction(reducer: Reducer, operand: Box<Expr>, axes: Vec<u64>) -> Expr
         ensures { term_of result ≡ unary (reduce reducer axes.items) (term_of operand.value) }
     {
@@ -237,7 +251,7 @@ impl Expr {
         }
     }
 
-    /// An operation along an axis.
+    /// Returns an operation along an axis.
     pub fn along(operation: LineOperation, operand: Box<Expr>, axis: u64) -> Expr
         ensures { term_of result ≡ unary (along operation axis) (term_of operand.value) }
     {
@@ -249,7 +263,7 @@ impl Expr {
         }
     }
 
-    /// The operation and its operands.
+    /// Returns the operation and its operands.
     pub fn node(&self) -> Node<'_>
         ensures { term_at result ≡ term_of self.now }
     {
@@ -308,14 +322,14 @@ impl Expr {
     }
 }
 
-/// The node of an operation on each value.
+/// Returns the node of an operation on each value.
 fn applied<'a>(operation: UnaryScalar, operand: &'a Expr) -> Node<'a>
     ensures { term_at result ≡ unary (each operation) (term_of operand.now) }
 {
     Node::Unary(Unary::Each(operation), operand)
 }
 
-/// The node of an operation on each two values.
+/// Returns the node of an operation on two tensors value by value.
 fn combined<'a>(operation: BinaryScalar, left: &'a Expr, right: &'a Expr) -> Node<'a>
     ensures { term_at result
         ≡ binary (pairwise operation) (term_of left.now) (term_of right.now) }
@@ -323,21 +337,21 @@ fn combined<'a>(operation: BinaryScalar, left: &'a Expr, right: &'a Expr) -> Nod
     Node::Binary(Binary::Pairwise(operation), left, right)
 }
 
-/// The node of a movement.
+/// Returns the node of a movement.
 fn moved<'a>(moving: Movement<'a>, operand: &'a Expr) -> Node<'a>
     ensures { term_at result ≡ unary (movement (movement_at moving.entry)) (term_of operand.now) }
 {
     Node::Unary(Unary::Move(moving), operand)
 }
 
-/// The node of a reduction.
+/// Returns the node of a reduction.
 fn reduced<'a>(reducer: Reducer, axes: &'a [u64], operand: &'a Expr) -> Node<'a>
     ensures { term_at result ≡ unary (reduce reducer axes.now) (term_of operand.now) }
 {
     Node::Unary(Unary::Reduce(reducer, axes), operand)
 }
 
-/// The node of an operation along an axis.
+/// Returns the node of an operation along an axis.
 fn along<'a>(operation: LineOperation, axis: u64, operand: &'a Expr) -> Node<'a>
     ensures { term_at result ≡ unary (along operation axis) (term_of operand.now) }
 {

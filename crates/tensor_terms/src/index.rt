@@ -1,4 +1,5 @@
-//! Index lists and places: which ones of an operand belong to one of the result.
+//! Index lists and places of operands, computed from an index list or a place of the result. The
+//! cursor calls these modules; a change touches the definitions of index lists in `specs/`.
 
 pub(crate) mod axis_lines;
 pub(crate) mod index_parts;

@@ -1,6 +1,7 @@
-//! Expressions over tensors of wrapping 64-bit integers, and what they mean: their result dims, or
-//! the first fault, and the value at one place. Tensors and inputs are here, and the index lists
-//! and axes that both go by; no loop over values.
+//! Expressions over tensors of wrapping 64-bit integers, and their meaning: the result dims or the
+//! first fault, and the value at one place. Evaluation by ranges is in tensor_ops. A change of a
+//! definition in `specs/` changes the meaning of the programs; every crate of tensors is proved
+//! against these definitions.
 #![tactic(auto)]
 
 mod cursor;

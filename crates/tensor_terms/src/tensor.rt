@@ -1,4 +1,5 @@
-//! A tensor: dims and values.
+//! A tensor: dims, and values that it owns or borrows. Contracts see it as `Contents`. A change
+//! touches `specs/Contents`, in which no definition knows where the values lie.
 
 pub(crate) mod inputs;
 pub(crate) mod tensors;
@@ -13,10 +14,12 @@ use std::marker::Model;
 use tensor_shape::Dims;
 
 /// Values of the `i64` range at all index lists of some dims, column-major: the first index is the
-/// fastest. The values are the tensor's own, or lent to it.
+/// fastest. The tensor owns its values or borrows them.
 #[derive(Drop)]
 pub struct Tensor<'a> {
+    /// The dims.
     dims: Dims,
+    /// The values in order of their places.
     values: CowSlice<'a, i64, Global>,
 }
 
@@ -34,8 +37,8 @@ impl<'a> Model for Tensor<'a> {
 }
 
 impl<'a> Tensor<'a> {
-    /// The tensor of these values, which are its own then, in order of their places. The first index
-    /// is the fastest.
+    /// Returns the tensor that owns these values, in order of their places. The first index is the
+    /// fastest.
     pub fn new(dims: Dims, values: Vec<i64>) -> Tensor<'a>
         requires { length values.items ≡ size_of dims }
         ensures dims { result.dims ≡ dims }
@@ -47,8 +50,8 @@ impl<'a> Tensor<'a> {
         }
     }
 
-    /// The tensor of these values, which it lends, in order of their places: none is copied, and it
-    /// takes no memory. The first index is the fastest, as for [`Tensor::new`].
+    /// Returns the tensor that borrows these values, in order of their places. Copies no value and
+    /// allocates nothing. The first index is the fastest.
     pub fn lent(dims: Dims, values: &'a [i64]) -> Tensor<'a>
         requires { length values.now ≡ size_of dims }
         ensures dims { result.dims ≡ dims }
@@ -60,14 +63,14 @@ impl<'a> Tensor<'a> {
         }
     }
 
-    /// The dims.
+    /// Returns the dims.
     pub fn dims(&self) -> &Dims
         ensures { result.now ≡ self.now.dims }
     {
         &self.dims
     }
 
-    /// The values, in order of their places. There are as many as the dims' size.
+    /// Returns the values in order of their places: as many as the size of the dims.
     pub fn values(&self) -> &[i64]
         ensures value { result.now ≡ self.now.values }
         ensures full { length self.now.values ≡ size_of self.now.dims }
@@ -75,7 +78,7 @@ impl<'a> Tensor<'a> {
         self.values.as_slice()
     }
 
-    /// The value at an index list.
+    /// Returns the value at an index list.
     pub fn value_at(&self, index: &[u64]) -> i64
         requires { IsIndexOf self.now.dims index.now }
         ensures { result ≡ value_at self.now index.now }

@@ -1,11 +1,12 @@
-//! Frames of version 3 in which tensors have names, worked out with ample memory.
+//! Tests of frames of version 3 with bindings: their tensors, how many values may follow a header,
+//! and inputs that are lent and freed.
 
 use crate::told::expect;
 use expr_reader::{read_frame, values_limit};
 use std::test::Fail;
 use tensor_runner::eval;
 
-/// A header of version 3 in which the square of a tensor has a name, and so has what is twice it.
+/// A header of version 3 with two bindings: the square of `a`, and twice that square.
 const NAMED: &[u8] = br#"{"version":3,"workers":2,"block":4,"inputs":{"a":{"dims":[2]}},
     "expr":["let","b",["mul","a","a"],["let","c",["add","b","b"],["sub",["mul","b","c"],"a"]]]}"#;
 

@@ -1,4 +1,4 @@
-//! Tensors of requests, and of expressions that are made again, node by node, with ample memory.
+//! Tests that requests, and copies of their expressions made node by node, have the same tensors.
 
 ghost use Rattle.expr_reader.specs.Asked.{IsUnbound};
 ghost use Rattle.std.specs.Prelude.{◌≡◌, IfOk};
@@ -15,7 +15,7 @@ use std::thread::Threads;
 use tensor_ops::{Expr, Node, eval_plain};
 use tensor_runner::eval;
 
-/// Inputs that expressions are over.
+/// The inputs of a case.
 #[derive(Clone, Copy)]
 enum Over {
     Three,
@@ -24,7 +24,7 @@ enum Over {
 }
 
 impl Over {
-    /// The version of their text, the inputs, and how many they are.
+    /// Returns the version of the request, the inputs as JSON, and how many there are.
     fn parts(self) -> (u32, &'static str, u32) {
         match self {
             Over::Three => (2, THREE, 3),
@@ -44,7 +44,8 @@ const SCALAR: &str = r#"{"a":{"dims":[],"data":[5]}}"#;
 
 const TWO: &str = r#"{"b":{"dims":[2],"data":[1,2]},"a":{"dims":[2],"data":[30,40]}}"#;
 
-/// Expressions: an operation of each kind, a node of each arity over others, and an input.
+/// Cases: the inputs, an expression, and the dims and values of its tensor. The expressions have
+/// nodes with one, two and three operands, and one is only an input.
 const TENSORS: &[(Over, &str, &[u64], &[i64])] = &[
     (
         Over::Three,
@@ -81,7 +82,7 @@ const TENSORS: &[(Over, &str, &[u64], &[i64])] = &[
     (Over::Two, r#"["add",["add","a","b"],"b"]"#, &[2], &[32, 44]),
 ];
 
-/// A copy of an expression.
+/// Copies an expression node by node.
 fn copied(alloc: Global, expr: &Expr) -> Result<Expr, AllocError>
     ensures { IfOk result (λ copy. term_of copy ≡ term_of expr.now) }
 {
@@ -98,7 +99,7 @@ fn copied(alloc: Global, expr: &Expr) -> Result<Expr, AllocError>
     }
 }
 
-/// Asserts that an expression has these values, by one thread.
+/// Asserts that `expr` has these dims and values, evaluated on one thread.
 fn plainly_has(
     rt: &impl Abort,
     alloc: Global,
@@ -116,7 +117,7 @@ fn plainly_has(
     Ok(())
 }
 
-/// The request of an expression.
+/// Reads the request of an expression.
 fn asked(alloc: Global, over: Over, expr: &str) -> Result<Request, Fail>
     ensures { IfOk result IsUnbound }
 {
@@ -125,7 +126,8 @@ fn asked(alloc: Global, over: Over, expr: &str) -> Result<Request, Fail>
     Ok(read_request(alloc, text.as_bytes())?)
 }
 
-/// Asserts that an expression has these values, by workers and alone, and so has its copy.
+/// Asserts that an expression has these dims and values: evaluated by workers, on one thread, and
+/// as a copy.
 fn has_values<RT: Threads + Wait + Abort + Sync>(
     rt: &RT,
     alloc: Global,

@@ -1,4 +1,4 @@
-//! Sizes, places and limits of dims.
+//! Tests of dims: sizes, places, strides, index lists and bounds.
 
 use crate::told::expect;
 use std::test::Fail;
@@ -34,13 +34,13 @@ fn index_lists_and_strides(rt: HostRuntime) -> Result<(), Fail> {
     Ok(())
 }
 
-/// As far as a rank of 6 goes in a text.
+/// The bounds of dims in texts of version 1.
 const SIX: Bounds = Bounds {
     rank: 6,
     elements: 1048576,
 };
 
-/// Bounds, sizes, and why there are no such dims within them.
+/// Bounds, sizes, and the fault of these sizes within the bounds, if there is one.
 const WITHIN: &[(Bounds, &[u64], Option<ShapeFault>)] = &[
     (SIX, &[1024, 1024, 1, 1, 1, 1], None),
     (SIX, &[1, 1, 1, 1, 1, 1, 1], Some(ShapeFault::RankTooHigh)),
@@ -56,8 +56,8 @@ fn limits_that_are_given(rt: HostRuntime) {
         expect(&rt, sizes, &Dims::within(bounds, sizes).err(), &fault);
     }
     let numbers = [
-        ShapeFault::RankTooHigh as u8,
-        ShapeFault::TooManyElements as u8,
+        ShapeFault::RankTooHigh.number(),
+        ShapeFault::TooManyElements.number(),
     ];
     expect(&rt, "numbers", &numbers, &[1, 2]);
 }

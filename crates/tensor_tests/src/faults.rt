@@ -1,4 +1,4 @@
-//! Faults by number, by name and by text.
+//! Tests of the numbers, names and words of faults. Programs and clients know them.
 
 use crate::told::expect;
 use expr_reader::Fault;
@@ -41,7 +41,7 @@ const NUMBERS: [u64; 3] = [
     StreamFault::WriteFault as u64,
 ];
 
-/// Why dims are not legal, and why an expression has none.
+/// Checks the words of the faults of dims and of expressions.
 #[test]
 fn texts_of_faults_of_dims(rt: HostRuntime) -> Result<(), Fail> {
     let (rank, elements) = (ShapeFault::RankTooHigh, ShapeFault::TooManyElements);
@@ -56,7 +56,8 @@ fn texts_of_faults_of_dims(rt: HostRuntime) -> Result<(), Fail> {
     Ok(())
 }
 
-/// Want of memory has one number, and those of the streams follow it.
+/// Checks that a run's NoMemory has the number of the fault NoMemory, and that the stream faults
+/// have the next numbers.
 #[test]
 fn faults_of_runs_and_streams(rt: HostRuntime) -> Result<(), Fail> {
     expect(&rt, "numbers", &NUMBERS, &[15, 16, 17]);

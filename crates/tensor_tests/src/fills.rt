@@ -1,5 +1,6 @@
-//! Values that are written where they are wanted, and those of lists, for each way in which the last
-//! operation of an expression is worked out, at each length.
+//! Tests of `fill` and `values` against the whole tensor, for each way in which the last operation
+//! of an expression is evaluated, and for ranges of each length. A new way to evaluate a root needs
+//! an expression in `ROOTS`.
 
 ghost use Rattle.expr_reader.specs.Asked.{IsUnbound};
 
@@ -11,9 +12,9 @@ use std::process::Abort;
 use std::test::Fail;
 use tensor_ops::{TensorEvaluator, eval_plain};
 
-/// Expressions over two grids and three values: an input, operations on values, one and then
-/// another, a movement, a reduction, contractions in tiles and in rows, a convolution, and operands
-/// in turns.
+/// Expressions over two grids and a list of three values, one for each way to evaluate the last
+/// operation: an input, element-wise operations without and with a moved operand, a movement, a
+/// reduction, contractions in tiles and in rows, a convolution, and operands in turns.
 const ROOTS: &[&str] = &[
     r#""a""#,
     r#"["abs",["sub","a","b"]]"#,
@@ -26,10 +27,10 @@ const ROOTS: &[&str] = &[
     r#"["concat","a",["neg","b"],0]"#,
 ];
 
-/// How many values are asked for at once at most, where each length is tried.
+/// The greatest length of a range.
 const MOST: usize = 1_155;
 
-/// Asserts that an expression has these values from a place on, written over others and in a list.
+/// Asserts that the values from place `first` on are `known`, both from `fill` and from `values`.
 fn range_is(
     rt: &impl Abort,
     alloc: Global,
@@ -47,7 +48,8 @@ fn range_is(
     Ok(())
 }
 
-/// Each range of the whole has its values, of each length, from a place that goes with it.
+/// Asserts for each length up to [`MOST`] that a range of that length has the values of the whole
+/// tensor. The place of the range depends on its length.
 fn has_each_length(rt: &impl Abort, alloc: Global, request: &Request) -> Result<(), Fail>
     requires { IsUnbound request.now }
 {

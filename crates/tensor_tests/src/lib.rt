@@ -1,9 +1,8 @@
-//! Tests of dims, expressions and plans by their calls, and of the whole way from the bytes of a
+//! Tests of dims, expressions and plans by single calls, and of the whole way from the bytes of a
 //! request text to the line that answers it.
 //!
-//! What a file of cases can hold stands in `request_cases`. Here are texts with bytes of their own
-//! or of the greatest length, and runs, and many lines, over readers and writers that give or take
-//! little, or fail.
+//! A case that is only a text and its answer belongs in `request_cases`. Here are texts that no
+//! file of cases can hold, and streams that give or take few bytes, or fail.
 #![tactic(auto)]
 
 #[cfg(test)]

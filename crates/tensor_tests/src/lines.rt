@@ -1,4 +1,5 @@
-//! Tries many requests, a line each, over streams that give or take little, or fail.
+//! Tests of `serve_lines`: many requests, a line each, over streams that give or take few bytes, or
+//! fail.
 
 use crate::streams::{Full, Giving, Taking};
 use crate::texts::{SCALAR, SCALAR_LINE};
@@ -7,7 +8,7 @@ use std::alloc::Global;
 use std::process::Abort;
 use std::sync::Wait;
 use std::thread::Threads;
-use tensor_runner::{Connection, CountedReader, CountedWriter, Ending, serve_lines};
+use tensor_runner::{Connection, CountedReader, CountedWriter, Ending, Service, serve_lines};
 
 const DONE: Ending = Ending {
     status: 0,
@@ -24,7 +25,7 @@ const WRITE_FAULT: Ending = Ending {
     complaint: Some("error 17 WriteFault\n"),
 };
 
-/// Three lines, the last without a line feed, and their answers.
+/// Three request lines, the last without a line feed.
 const THREE: &[u8] = b"{\"version\":1,\"workers\":2,\"block\":4,\
     \"inputs\":{\"a\":{\"dims\":[],\"data\":[5]}},\"expr\":\"a\"}\n[]\n\
     {\"version\":1,\"workers\":2,\"block\":1,\
@@ -33,11 +34,12 @@ const THREE: &[u8] = b"{\"version\":1,\"workers\":2,\"block\":4,\
 const THREE_LINES: &str =
     "{\"data\":[5],\"dims\":[]}\nerror 3 BadField\n{\"data\":[2,4],\"dims\":[2]}\n";
 
-/// Behind how many bytes of the three lines the first is whole, and the second, and how many bytes
-/// answer them then.
+/// After how many bytes of [`THREE`] the first and the second line are complete, and how many bytes
+/// their answers have then.
 const WHOLE: &[(usize, usize)] = &[(85, 23), (88, 40)];
 
-/// Asserts that the lines are answered so, and that just the stream has failed that is complained of.
+/// Asserts the ending and the bytes of the answers, and that only the stream of the ending's fault
+/// has failed.
 fn expect_lines<RT: Threads + Wait + Abort + Sync>(
     rt: &RT,
     alloc: Global,
@@ -49,7 +51,7 @@ fn expect_lines<RT: Threads + Wait + Abort + Sync>(
         source: CountedReader::new(streams.0),
         sink: CountedWriter::new(streams.1),
     };
-    let ending = serve_lines(rt, alloc, &mut client);
+    let ending = serve_lines(rt, alloc, Service::plain(), &mut client);
     expect(rt, name, &ending, &wanted.0);
     let told = client.sink.writer.taken.as_slice();
     expect(rt, name, &told, &wanted.1);
@@ -58,7 +60,7 @@ fn expect_lines<RT: Threads + Wait + Abort + Sync>(
     expect(rt, name, &failures, &known);
 }
 
-/// Texts, and the answers of their lines.
+/// Texts with a name, and the answers of their lines.
 const TEXTS: &[(&str, &[u8], &str)] = &[
     ("no line", b"", ""),
     ("a feed", b"\n", "error 2 NotJson\n"),
@@ -92,7 +94,8 @@ fn lines_of_small_texts(rt: HostRuntime) {
     }
 }
 
-/// The lines are answered of which the line feed was read, and nothing of the one that broke off.
+/// Checks that the lines whose line feed was read are answered, and that the line at which the
+/// reader failed is not.
 #[test]
 fn a_reader_that_fails_in_each_line(rt: HostRuntime) {
     for good_calls in 0..=THREE.len() {
@@ -110,7 +113,7 @@ fn a_reader_that_fails_in_each_line(rt: HostRuntime) {
     }
 }
 
-/// The front of the answers is written for which there is room.
+/// Checks that a writer without room for all answers has the prefix of them that fits.
 #[test]
 fn a_writer_that_is_full_in_each_line(rt: HostRuntime) {
     let lines = THREE_LINES.as_bytes();

@@ -1,4 +1,4 @@
-//! Parts of the values of reductions and contractions, with ample memory.
+//! Tests of `PartEvaluator`: parts of the values of reductions and contractions, and whole values.
 
 ghost use Rattle.std.specs.Prelude.{◌≡◌, IsTrue, length};
 ghost use Rattle.tensor_ops.specs.Index.{size_of};
@@ -16,7 +16,8 @@ use std::process::Abort;
 use std::test::Fail;
 use tensor_ops::{Binary, Expr, Inputs, PartEvaluator, Reducer, Unary};
 
-/// A value's place, its first index list and the one after the last, and what these give.
+/// A part of a value: the place of the value, the first and the end of the range of index lists
+/// that are combined, and what they give.
 type Part = (u64, u64, u64, i64);
 
 const SUMS: [Part; 4] = [(0, 0, 3, 6), (0, 0, 2, 3), (1, 2, 3, 6), (1, 1, 1, 0)];
@@ -31,7 +32,7 @@ const CONTRACTION: [Part; 5] = [
     (3, 3, 3, 0),
 ];
 
-/// Asserts what a part of the values is, of which there are so many.
+/// Asserts what a part of a value is, in a tensor of `size` values.
 fn gives_part(
     rt: &impl Abort,
     name: &str,
@@ -51,14 +52,14 @@ fn gives_part(
     Ok(())
 }
 
-/// An expression, and the inputs that it is worked out over.
+/// An expression, and the inputs that it is evaluated over.
 #[derive(Drop)]
 struct Operand<'a> {
     expr: Expr,
     inputs: Inputs<'a>,
 }
 
-/// Asserts what these parts of an expression's values are over the four inputs, and these values.
+/// Asserts these parts of an expression's values, and its whole values, over `four_inputs`.
 fn gives(
     rt: &impl Abort,
     alloc: Global,
@@ -74,7 +75,8 @@ fn gives(
     gives_over(rt, alloc, name, &Operand { expr, inputs }, parts, wholes)
 }
 
-/// `gives`, over inputs that are lent with the expression.
+/// Asserts these parts of an expression's values, and its whole values, over the operand's own
+/// inputs.
 fn gives_over(
     rt: &impl Abort,
     alloc: Global,

@@ -1,4 +1,5 @@
-//! Plans: how many steps expressions have, and what these give one after the other.
+//! Tests of plans: how many steps an expression has, and that the last step gives its tensor. A
+//! change of what is a step in `tensor_reduce` changes the counts here.
 
 ghost use Rattle.std.specs.Prelude.{◌≡◌, ◌+◌, ◌<◌, ◌^◌, length, IfOk, OnOk, IsTrue};
 ghost use Rattle.tensor_ops.specs.Legal.{widest};
@@ -17,7 +18,7 @@ use tensor_ops::{
 };
 use tensor_reduce::{Plan, Step};
 
-/// The tensor of these sizes and values.
+/// Makes a tensor of these dims and values.
 fn tensor(alloc: Global, sizes: &[u64], values: &[i64]) -> Result<Tensor<'static>, Fail>
     ensures { IfOk result (λ t. t.dims ≡ sizes.now) }
 {
@@ -28,7 +29,7 @@ fn tensor(alloc: Global, sizes: &[u64], values: &[i64]) -> Result<Tensor<'static
     Ok(Tensor::new(dims, values.to_vec(alloc)?))
 }
 
-/// Four inputs: of 2 by 3, of 3 by 2, of 2, and a scalar.
+/// Makes four inputs: with dims 2 by 3, 3 by 2 and 2, and a scalar.
 pub(crate) fn four_inputs(alloc: Global) -> Result<Inputs<'static>, Fail>
     ensures { IfOk result (λ inputs. (length inputs.tensors ≡ 4) × (inputs.bounds ≡ widest)) }
 {
@@ -44,7 +45,7 @@ pub(crate) fn four_inputs(alloc: Global) -> Result<Inputs<'static>, Fail>
     Ok(inputs)
 }
 
-/// Works out steps one after the other. Their tensors go behind those that are there.
+/// Evaluates steps one after the other. Appends the tensor of each to `tensors`.
 fn work_out(alloc: Global, steps: &[Step], tensors: &mut Inputs) -> Result<(), AllocError>
     requires ready { AreReady steps.now tensors.old.tensors }
     requires few { length tensors.old.tensors + length steps.now < 2 ^ 32 }
@@ -56,7 +57,7 @@ fn work_out(alloc: Global, steps: &[Step], tensors: &mut Inputs) -> Result<(), A
         [] => Ok(()),
         [step, rest @ ..] => {
             let tensor = eval_plain(alloc, step.expr(), tensors)?;
-            // Says that its dims are legal.
+            // Called for its clause: the dims of a tensor are legal.
             let _sizes = tensor.dims().as_slice();
             tensors.push(tensor)?;
             work_out(alloc, rest, tensors)
@@ -64,7 +65,8 @@ fn work_out(alloc: Global, steps: &[Step], tensors: &mut Inputs) -> Result<(), A
     }
 }
 
-/// Asserts that a plan has so many steps, of which the last gives the expression's tensor.
+/// Asserts that the plan of an expression has `count` steps, and that the last step gives the
+/// expression's tensor.
 fn has_steps(rt: &impl Abort, alloc: Global, expr: &Expr, count: usize) -> Result<(), Fail>
     requires { IsTrue (has_inputs (term_of expr.now) 4) }
 {
@@ -84,7 +86,7 @@ fn has_steps(rt: &impl Abort, alloc: Global, expr: &Expr, count: usize) -> Resul
     Ok(())
 }
 
-/// The contraction of the first input's columns with the second's rows.
+/// Returns the matrix product of an expression and the second input.
 pub(crate) fn contraction(alloc: Global, first: Expr) -> Result<Expr, AllocError>
     ensures { IfOk result (λ e.
         IsTrue (has_inputs (term_of first) 4) → IsTrue (has_inputs (term_of e) 4)) }
@@ -92,7 +94,7 @@ pub(crate) fn contraction(alloc: Global, first: Expr) -> Result<Expr, AllocError
     Binary::Contract(&[(1, 0)]).over(alloc, first, Expr::Input(1))
 }
 
-/// A sum is a step, and so is what adds to it.
+/// Checks the steps of an input, a contraction, and an addition to a sum, which is two steps.
 #[test]
 fn steps_of_few_operations(rt: HostRuntime) -> Result<(), Fail> {
     let alloc = rt.alloc();
@@ -103,8 +105,8 @@ fn steps_of_few_operations(rt: HostRuntime) -> Result<(), Fail> {
     has_steps(&rt, alloc, &both, 2)
 }
 
-/// A negation, its contraction, the squares of that, their greatest, and its product with an input;
-/// and a negation, its convolution, and zeroes round that.
+/// Checks the five steps of the largest squares of a product, and the three steps of a padded
+/// convolution.
 #[test]
 fn steps_of_nested_operations(rt: HostRuntime) -> Result<(), Fail> {
     let alloc = rt.alloc();

@@ -1,10 +1,11 @@
-//! A text that is read.
+//! A test of `read_request`: the workers, the block, and the inputs and their numbers in the
+//! expression.
 
 use crate::told::expect;
 use expr_reader::{Expr, read_request};
 use std::test::Fail;
 
-/// The number of the input that an expression is.
+/// Returns the number of an expression that is an input.
 fn input_of(expr: &Expr) -> Option<u32> {
     match expr {
         Expr::Input(number) => Some(*number),

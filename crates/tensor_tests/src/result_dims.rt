@@ -1,4 +1,4 @@
-//! Result dims, and the faults in their place.
+//! Tests of the result dims of expressions, and of the faults of expressions that have none.
 ghost use Rattle.std.specs.Prelude.{◌≡◌, ◌⊎◌, IfOk, length};
 
 use crate::texts::request;
@@ -8,7 +8,7 @@ use std::alloc::Global;
 use std::test::Fail;
 use tensor_ops::{Dims, Expr, ExprFault, Inputs, Movement, Tensor, Unary};
 
-/// An input of 2 by 3.
+/// Makes an input with dims 2 by 3.
 fn two_by_three(alloc: Global) -> Result<Inputs<'static>, Fail>
     ensures { IfOk result (λ i. length i.tensors ≡ 1) }
 {
@@ -18,7 +18,7 @@ fn two_by_three(alloc: Global) -> Result<Inputs<'static>, Fail>
     Ok(inputs)
 }
 
-/// The fault of a movement of the input.
+/// Returns the fault of a movement of the first input, if it has one.
 fn fault_of(
     alloc: Global,
     inputs: &Inputs,
@@ -30,7 +30,7 @@ fn fault_of(
     Ok(moved.dims(inputs).err())
 }
 
-/// Movements of 2 by 3 that there are no dims of, and why, by number.
+/// Movements of dims 2 by 3 that have a fault, with the fault and its number.
 const FAULTS: &[(Movement<'static>, ExprFault, u8)] = &[
     (Movement::Shuffle(&[0, 1, 2]), ExprFault::ShapeMismatch, 1),
     (Movement::Chip(2, 0), ExprFault::OutOfRange, 2),
@@ -64,7 +64,7 @@ fn dims_over_those_of_the_operands(rt: HostRuntime) -> Result<(), Fail> {
     Ok(())
 }
 
-/// One number, in results of this rank at most.
+/// Makes an input with one value, in a list of inputs whose results have at most this rank.
 fn one_number(alloc: Global, limit: u32) -> Result<Inputs<'static>, Fail>
     requires { (limit ≡ 6) ⊎ (limit ≡ 8) }
     ensures { IfOk result (λ i. length i.tensors ≡ 1) }

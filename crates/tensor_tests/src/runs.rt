@@ -1,5 +1,5 @@
-//! Runs over streams that give or take little, or fail, and runs over texts that no line of a file
-//! of cases can hold: of other bytes, and of the greatest length.
+//! Tests of `run` and `serve` over streams that give or take few bytes, or fail, and over texts
+//! that no file of cases can hold: texts that are not UTF-8, and texts of the greatest length.
 
 use crate::streams::{Full, Giving, Taking};
 use crate::texts::{PRODUCT, PRODUCT_LINE, SCALAR, SCALAR_LINE, SPACED};
@@ -12,19 +12,20 @@ use std::test::Fail;
 use std::thread::Threads;
 use tensor_runner::{CountedReader, CountedWriter, Ending, Status, StreamFault, run, serve};
 
-/// How a run is to end.
+/// How a run should end.
 #[derive(Drop)]
 struct Wanted<'t> {
     name: &'t str,
     ended: Result<Status, StreamFault>,
-    /// The line, of which the writer takes what it has room for.
+    /// The answer. The writer gets the prefix of it that fits.
     line: &'t str,
-    /// How often the streams are called, where that is known.
+    /// How often each stream is called, if the test says it.
     reads: Option<u64>,
     writes: Option<u64>,
 }
 
-/// Asserts that a run ends so, and that just the stream that it tells of has failed, once.
+/// Asserts how a run ends and what it writes, and that only the stream of its fault has failed,
+/// once.
 fn expect_run<RT: Threads + Wait + Abort + Sync>(
     rt: &RT,
     alloc: Global,
@@ -59,9 +60,9 @@ const TOO_LONG: &str = "error 1 TooLong\n";
 
 const NOT_JSON: &str = "error 2 NotJson\n";
 
-/// Texts that white space makes so long, how many bytes a read gives at most, the lines that answer
-/// them, and how many reads there are, where that is known. The last read of a text tells its end,
-/// or is of the one byte that tells that there are too many.
+/// Cases: a name, a text, the length to which spaces fill it up, the most bytes that one read
+/// gives, the answer, and how many reads there are, if the case says it. The last read finds the
+/// end of the text, or the one byte that makes it too long.
 const TEXTS: &[(&str, &[u8], usize, usize, &str, Option<u64>)] = &[
     ("no UTF-8", b"\"\xff\"", 3, MOST, NOT_JSON, None),
     ("spaced", SPACED, 0, MOST, SCALAR_LINE, None),
@@ -119,8 +120,8 @@ fn lines_of_texts(rt: HostRuntime) -> Result<(), Fail> {
     Ok(())
 }
 
-/// The last call would tell the end. Any error is answered, also one that other readers try again,
-/// and nothing is written.
+/// Checks a reader that fails after each number of reads. Every error ends the run, also
+/// `Interrupted`, which other readers try again, and nothing is written.
 #[test]
 fn a_reader_that_fails_at_each_place(rt: HostRuntime) {
     for (name, kind) in [
@@ -147,15 +148,14 @@ fn a_reader_that_fails_at_each_place(rt: HostRuntime) {
     }
 }
 
-/// How many bytes of the product's line, of 36, a call takes at most, and how many calls take it
-/// whole.
+/// The most bytes that one write takes, and how many writes take the 36 bytes of [`PRODUCT_LINE`].
 const CALLS: &[(&str, usize, u64)] = &[
     ("a byte a call", 1, 36),
     ("five bytes a call", 5, 8),
     ("all by one call", 1000, 1),
 ];
 
-/// The front of the line that has room is written, and no more.
+/// Checks that a writer without room for the line has the prefix of it that fits.
 #[test]
 fn a_writer_that_is_full_at_each_place(rt: HostRuntime) {
     for full in [Full::Fails, Full::TakesNone] {
@@ -185,10 +185,10 @@ fn a_writer_that_is_full_at_each_place(rt: HostRuntime) {
     }
 }
 
-/// Texts, how many calls give a byte of them, the room of the writer; and what the program ends
-/// with: its exit status, and the line on standard error; and the line that the writer takes.
+/// Cases: a name, a text, how many reads of one byte succeed, how many bytes the writer takes, the
+/// exit status, the line on standard error, and the answer.
 ///
-/// A stream that fails is no fault of the text: its line stands on standard error.
+/// A stream that fails is not a fault of the text, so its line is on standard error.
 const ENDINGS: &[(&str, &[u8], u64, usize, u8, Option<&str>, &str)] = &[
     ("a tensor", PRODUCT, 1000, 1000, 0, None, PRODUCT_LINE),
     ("a fault", b"[]", 1000, 1000, 1, None, "error 3 BadField\n"),
@@ -213,7 +213,8 @@ const ENDINGS: &[(&str, &[u8], u64, usize, u8, Option<&str>, &str)] = &[
     ),
 ];
 
-/// The ending of a text of which so many calls give a byte, and what a writer of such room took.
+/// Serves a text whose reader gives one byte a call and fails after `good_calls` calls. Returns the
+/// ending, and the bytes that a writer with this room has.
 fn served<RT: Threads + Wait + Sync>(
     rt: &RT,
     alloc: Global,
@@ -231,7 +232,7 @@ fn served<RT: Threads + Wait + Sync>(
     (ending, writer.writer.taken)
 }
 
-/// Where the writer fails the front of the line is written for which there was room.
+/// Checks the endings of [`ENDINGS`]. A writer that fails has the prefix of the line that fits.
 #[test]
 fn endings_of_lines(rt: HostRuntime) {
     for &(name, text, good_calls, room, status, complaint, line) in ENDINGS {

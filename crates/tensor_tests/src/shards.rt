@@ -1,11 +1,12 @@
-//! Shards: the ranges that index lists are cut into.
+//! Tests of shards: the ranges into which the index lists of a reduction are cut.
 
 use crate::told::expect;
 use std::process::Abort;
 use tensor_reduce::Shards;
 
-/// How many index lists there are, the block; and how many shards, of which width. The last may be
-/// shorter. There are at most 1,024 of them, however small the block.
+/// Cases: how many index lists there are, the block, how many shards they have, and the width of a
+/// shard. The last shard may be narrower. There are at most 1,024 shards, however small the block
+/// is.
 const SHARDS: &[(u64, u64, u64, u64)] = &[
     (10, 4, 3, 4),
     (8, 4, 2, 4),
@@ -27,7 +28,8 @@ const SHARDS: &[(u64, u64, u64, u64)] = &[
     (4096, 0, 1024, 4),
 ];
 
-/// So many index lists have so many shards of a width, one behind the other.
+/// Asserts that `inner` index lists have `count` shards of this width, each beginning where the one
+/// before it ends.
 fn are(rt: &impl Abort, inner: u64, block: u64, count: u64, width: u64) {
     let shards = Shards::of(inner, block);
     let mut first = 0u64;

@@ -1,4 +1,5 @@
-//! Steps by their kernels, and plans that are run.
+//! Tests of steps by their kernels and evaluators, and of `run_plan` on numbers of workers and
+//! blocks.
 
 ghost use Rattle.std.specs.Prelude.{◌++◌, IsTrue, IfOk};
 ghost use Rattle.tensor_reduce.specs.Plan.{IsReady};
@@ -15,10 +16,10 @@ use std::thread::Threads;
 use tensor_ops::{Expr, Inputs, Tensor, TensorEvaluator, Unary, UnaryScalar, eval_plain};
 use tensor_reduce::{ForFault, Kernel, Plan, PoolFault, Setup, Step, StepKernel, run_plan};
 
-/// The values of the squares of the first input's columns contracted with the second's rows.
+/// The squares of the values of the matrix product of the first two inputs.
 const SQUARES: [i64; 4] = [484, 2401, 784, 4096];
 
-/// That expression, which has two steps.
+/// Returns the expression of [`SQUARES`], whose plan has two steps.
 fn squares(alloc: Global) -> Result<Expr, AllocError>
     ensures { IfOk result (λ e. IsTrue (has_inputs (term_of e) 4)) }
 {
@@ -26,8 +27,8 @@ fn squares(alloc: Global) -> Result<Expr, AllocError>
     Unary::Each(UnaryScalar::Square).over(alloc, product)
 }
 
-/// A step of which these are the tensors of the steps before it, by its kernel: the values of two
-/// ranges that meet at a place.
+/// Asserts that the kernel of the last step, over the tensors of the steps before it, fills two
+/// ranges that meet at `place` with [`SQUARES`].
 fn fills_squares(
     rt: &impl Abort,
     alloc: Global,
@@ -48,7 +49,8 @@ fn fills_squares(
     Ok(())
 }
 
-/// The same step by an evaluator: the values of the second range.
+/// Asserts that an evaluator of the last step, over the tensors of the steps before it, gives the
+/// values of [`SQUARES`] from `place` on.
 fn gives_squares(
     rt: &impl Abort,
     alloc: Global,
@@ -72,7 +74,7 @@ fn gives_squares(
     Ok(())
 }
 
-/// The last of the steps of the squares, over the tensor of the first.
+/// Asserts the values of the last step of the squares, over the tensor of the first step.
 fn last_gives_squares(rt: &impl Abort, alloc: Global, place: u64) -> Result<(), Fail> {
     let inputs = four_inputs(alloc)?;
     let expr = squares(alloc)?;
@@ -94,8 +96,8 @@ fn values_of_a_step_in_two_ranges(rt: HostRuntime) -> Result<(), Fail> {
     Ok(())
 }
 
-/// Numbers of workers, blocks, and why the plan of the squares isn't run. By number: the block
-/// before the workers.
+/// Numbers of workers, blocks, and the fault of running the plan with them. If both are bad, the
+/// fault of the block is returned.
 const RUNS: &[(u32, u64, Option<ForFault>)] = &[
     (1, 1, None),
     (1, 100, None),
@@ -108,7 +110,7 @@ const RUNS: &[(u32, u64, Option<ForFault>)] = &[
     (257, 1, Some(ForFault::Pool(PoolFault::BadWorkers))),
 ];
 
-/// Asserts what is answered for the squares on so many workers, by blocks of so many places.
+/// Asserts what `run_plan` returns for the squares with this number of workers and this block.
 fn runs_squares<RT: Threads + Wait + Abort + Sync>(
     rt: &RT,
     alloc: Global,

@@ -1,10 +1,10 @@
-//! Streams that give or take little, and streams that fail.
+//! Streams in memory that give or take few bytes a call, or fail.
 
 use std::alloc::Global;
 use std::io;
 use std::io::{Read, Write};
 
-/// Gives some bytes a call, and fails after so many calls.
+/// A reader that gives at most `most_a_call` bytes a call, and fails after `good_calls` calls.
 #[derive(Drop)]
 pub(crate) struct Giving<'t> {
     pub(crate) rest: &'t [u8],
@@ -14,7 +14,7 @@ pub(crate) struct Giving<'t> {
 }
 
 impl<'t> Giving<'t> {
-    /// A text of which a call gives so many bytes at most, without a failure.
+    /// Returns a reader of a text that gives at most `most_a_call` bytes a call and never fails.
     pub(crate) fn by(most_a_call: usize, text: &'t [u8]) -> Giving<'t> {
         Giving {
             rest: text,
@@ -39,14 +39,14 @@ impl<'t> Read for Giving<'t> {
     }
 }
 
-/// What a writer does where its room is full.
+/// What a writer does if its room is full: it fails, or takes 0 bytes.
 #[derive(Clone, Copy, Debug, PartialEq)]
 pub(crate) enum Full {
     Fails,
     TakesNone,
 }
 
-/// Takes some bytes a call, until its room is full.
+/// A writer that takes at most `most_a_call` bytes a call, until it has taken `room` bytes.
 #[derive(Drop)]
 pub(crate) struct Taking {
     pub(crate) taken: Vec<u8>,
@@ -56,7 +56,7 @@ pub(crate) struct Taking {
 }
 
 impl Taking {
-    /// Takes all.
+    /// Returns a writer that takes all bytes.
     pub(crate) fn all(alloc: Global) -> Taking {
         Taking {
             taken: Vec::new(alloc),

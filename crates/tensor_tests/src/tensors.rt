@@ -1,4 +1,4 @@
-//! Tensors and lists of them.
+//! Tests of tensors and of lists of inputs.
 
 use crate::told::expect;
 use std::test::Fail;

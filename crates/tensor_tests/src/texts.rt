@@ -1,29 +1,30 @@
-//! Request texts.
+//! Request texts that several tests use, and functions that make others.
 
 use std::alloc::{AllocError, Global};
 
-/// The text that asks for a scalar.
+/// A text that asks for a scalar.
 pub(crate) const SCALAR: &[u8] = b"{\"version\":1,\"workers\":2,\"block\":4,\
     \"inputs\":{\"a\":{\"dims\":[],\"data\":[5]}},\"expr\":\"a\"}";
 
-/// The same with white space in it.
+/// The request of [`SCALAR`], with white space and the fields in another order.
 pub(crate) const SPACED: &[u8] = b" {\r\n\t\"expr\" : \"a\", \
     \"inputs\" : {\"a\" : {\"data\" : [ 5 ], \"dims\" : [ ]}}, \
     \"block\" : 4, \"workers\" : 2, \"version\" : 1 }\n";
 
-/// The line that answers both.
+/// The answer of [`SCALAR`] and of [`SPACED`].
 pub(crate) const SCALAR_LINE: &str = "{\"data\":[5],\"dims\":[]}\n";
 
-/// The text that asks for a contraction of two matrices, of 162 bytes.
+/// A text of 162 bytes that asks for the product of two matrices.
 pub(crate) const PRODUCT: &[u8] = b"{\"version\":1,\"workers\":2,\"block\":4,\
     \"inputs\":{\"l\":{\"dims\":[2,3],\"data\":[1,4,2,5,3,6]},\
     \"r\":{\"dims\":[3,2],\"data\":[1,3,5,2,4,6]}},\
     \"expr\":[\"contract\",\"l\",\"r\",[[1,0]]]}";
 
-/// The line that answers it.
+/// The answer of [`PRODUCT`].
 pub(crate) const PRODUCT_LINE: &str = "{\"data\":[22,49,28,64],\"dims\":[2,2]}\n";
 
-/// The request text of a version, these inputs and this expression, on two workers by blocks of four.
+/// Returns a request text with these inputs and this expression, for two workers and blocks of four
+/// places.
 pub(crate) fn request(
     alloc: Global,
     version: u32,
@@ -35,7 +36,7 @@ pub(crate) fn request(
     )
 }
 
-/// So many values, of which each is one more than the one before.
+/// Returns `count` values as JSON, each one more than the value before.
 fn rising(alloc: Global, count: u32, first: i32) -> Result<String, AllocError> {
     let mut data = String::new(alloc);
     for place in 0..count {
@@ -47,7 +48,7 @@ fn rising(alloc: Global, count: u32, first: i32) -> Result<String, AllocError> {
     Ok(data)
 }
 
-/// Two grids `a` and `b` of so many rows and columns, and a list `k` of three values.
+/// Returns inputs as JSON: the grids `a` and `b` with these dims, and a list `k` of three values.
 pub(crate) fn grids(alloc: Global, rows: u16, columns: u16) -> Result<String, AllocError> {
     let count = u32::from(rows) * u32::from(columns);
     let (first, second) = (rising(alloc, count, -50)?, rising(alloc, count, 7)?);

@@ -1,10 +1,10 @@
-//! How a test says what it found.
+//! The comparison that all tests of the crate use, and its message.
 
 use std::fmt::Debug;
 use std::process::Abort;
 
-/// Stops where what was found isn't what is known of it, and says of what. A comparison costs a
-/// proof many steps, so that it stands here once for all tests.
+/// Stops the test if `found` is not `known`, with a message that has `of`, the name of the case. A
+/// comparison takes the prover many steps, so there is only this one.
 pub(crate) fn expect<W: Debug + Drop, T: PartialEq + Debug>(
     rt: &impl Abort,
     of: W,

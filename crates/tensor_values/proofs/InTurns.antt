@@ -163,7 +163,7 @@ module _ (v w : ℕ) where
       let turn : (p + k) / (v + w) ≡ p / (v + w) = ap (λ n. n / (v + w)) at ∙ div-mul-add (p / (v + w)) (v + w) r below in
       (rw index (le-ltb r v (omega arith)), rw (turn, index) (omega arith))
 
-  -- before so many turns
+  -- before the first t turns
   pub before-turns : (t : ℕ) → 0 < v + w → (firsts_before v w (t * (v + w)) ≡ t * v) × (seconds_before v w (t * (v + w)) ≡ t * w)
   before-turns t some =
       let at : t * (v + w) ≡ t * (v + w) + 0 = omega arith in

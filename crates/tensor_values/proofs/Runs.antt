@@ -97,7 +97,7 @@ module _ (ps : List ℕ) where
       places-read (λ p. o (f p)) ps vs (omega arith)
       (λ k below. each k (omega arith) ∙ ap (λ l. o (get_or l k (pos 0))) operand ∙ ap o (get_or-map f ps k 0 (pos 0) below))
 
-  -- the same of two
+  -- an operation on the values of two functions at the same places
   pub places-paired : (o : ℤ → ℤ → ℤ) (f g : ℕ → ℤ) (xs vs : List ℤ) → xs ≡ map f ps → length vs ≡ length ps
       → ((k : ℕ) → k < length ps → get_or vs k (pos 0) ≡ o (get_or xs k (pos 0)) (g (get_or ps k 0))) → vs ≡ map (λ p. o (f p) (g p)) ps
   places-paired o f g xs vs left long each =
@@ -109,7 +109,7 @@ module _ (ps : List ℕ) where
   pub places-moved : (f : ℕ → ℤ) (m : ℕ → ℕ) → map f (map m ps) ≡ map (λ p. f (m p)) ps
   places-moved f m = map-map-of f m ps
 
-  -- the same of three
+  -- an operation on the values of three functions at the same places
   pub places-selected : (o : ℤ → ℤ → ℤ → ℤ) (f g h : ℕ → ℤ) (xs ys zs vs : List ℤ) → xs ≡ map f ps → ys ≡ map g ps → zs ≡ map h ps
       → length vs ≡ length ys
       → ((k : ℕ) → k < length ys → get_or vs k (pos 0) ≡ o (get_or xs k (pos 0)) (get_or ys k (pos 0)) (get_or zs k (pos 0)))

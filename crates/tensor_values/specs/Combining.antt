@@ -1,4 +1,4 @@
--- Values combined one after the other.
+-- Combining values one after the other.
 use Rattle.std.specs.Prelude.{ℤ, pos, neg_ℤ, ◌+ℤ◌, ◌*ℤ◌, List, ◌&&◌, ◌||◌}
 use Rattle.std.specs.Int.{int_max, int_min}
 use Rattle.std.specs.List.{fold}
@@ -7,7 +7,7 @@ use Rattle.tensor_values.specs.Scalars.{is_true, truth}
 use Rattle.tensor_values.specs.declared.reducer.Reducer.{Reducer}
 use Rattle.tensor_values.specs.declared.reducer.Reducer.TheVariants.{Sum, Prod, Max, Min, All, Any}
 
--- what a reduction of no values gives
+-- the result of a reduction of no values
 abbrev pub unit : Reducer → ℤ
 unit Sum = pos 0
 unit Prod = pos 1
@@ -25,6 +25,6 @@ combine Min x y = int_min x y
 combine All x y = truth (is_true x && is_true y)
 combine Any x y = truth (is_true x || is_true y)
 
--- values combined one after the other, from the unit
+-- values combined one after the other, beginning with the unit
 abbrev pub combination : Reducer → List ℤ → ℤ
 combination r values = fold (combine r) (unit r) values

@@ -1,4 +1,4 @@
--- Interleavings: places of two operands in turns, so many of the first and then so many of the second.
+-- Interleavings: n places of one operand and then m places of another operand, in turns.
 use Rattle.std.specs.Prelude.{◌≡◌, ℕ, ℤ, ◌+◌, ◌-◌, ◌*◌, ◌/◌, ◌%◌, ◌<◌, min, List, map}
 use Rattle.std.specs.Prelude.{Bool, ◌&&◌, nat_le, nat_lt, not, if◌then◌else◌, pos, slice_index, slice_set}
 use Rattle.std.specs.List.{filter, range_with_len}
@@ -7,54 +7,58 @@ use Rattle.std.specs.List.{filter, range_with_len}
 abbrev pub is_of_first : ℕ → ℕ → ℕ → Bool
 is_of_first first second p = nat_lt (p % (first + second)) first
 
--- how many places of the first operand there are before a place
+-- how many places of the first operand precede a place
 abbrev pub firsts_before : ℕ → ℕ → ℕ → ℕ
 firsts_before first second p = p / (first + second) * first + min (p % (first + second)) first
 
--- and how many of the second
+-- how many places of the second operand precede a place
 abbrev pub seconds_before : ℕ → ℕ → ℕ → ℕ
 seconds_before first second p =
     p / (first + second) * second + (p % (first + second) - first)
 
--- where the places that follow a place in the same operand end
+-- the end of the run of places of one operand in which a place lies
 abbrev pub end_of_turn : ℕ → ℕ → ℕ → ℕ
 end_of_turn first second p =
     p + ((if is_of_first first second p then first else first + second) - p % (first + second))
 
--- the value at a place, of the operand whose place it is
+-- the value at a place, read from the operand that the place belongs to
 abbrev pub interleaved : ℕ → ℕ → (ℕ → ℤ) → (ℕ → ℤ) → ℕ → ℤ
 interleaved first second f g p =
     if is_of_first first second p
     then f (firsts_before first second p)
     else g (seconds_before first second p)
 
--- operands of so many places each are made of the same number of turns, and have some in each
+-- two operands with the given numbers of places fill a whole number of turns, and each has places
+-- in a turn
 abbrev pub HaveTurns : ℕ → ℕ → ℕ → ℕ → Type 0
 HaveTurns first second firsts seconds =
     ((0 < first) × (0 < second))
     × ((firsts ≡ firsts / first * first) × (seconds ≡ firsts / first * second))
 
--- the places of each operand among places, in order
+-- the places in the first operand that a list of places reads, in order
 abbrev pub first_places : ℕ → ℕ → List ℕ → List ℕ
 first_places first second ps =
     map (firsts_before first second) (filter (is_of_first first second) ps)
 
+-- the places in the second operand that a list of places reads, in order
 abbrev pub second_places : ℕ → ℕ → List ℕ → List ℕ
 second_places first second ps =
     map (seconds_before first second) (filter (λ p. not (is_of_first first second p)) ps)
 
--- values are those of an interleaving at places, where those of the operands at their places are these
+-- values are those of the interleaving at places, if xs are the values of the first operand at ps
+-- and ys the values of the second operand at qs
 abbrev pub AreInterleaved :
     ℕ → ℕ → List ℕ → List ℕ → List ℕ → List ℤ → List ℤ → List ℤ → Type 0
 AreInterleaved first second places ps qs xs ys values =
     (f g : ℕ → ℤ) → xs ≡ map f ps → ys ≡ map g qs
     → values ≡ map (interleaved first second f g) places
 
--- the run of places that an operand has in a run, from how many there are before its ends
+-- the places of an operand in a run, given how many precede the run's start and its end
 abbrev pub run_between : ℕ → ℕ → List ℕ
 run_between from to = range_with_len from (to - from)
 
--- the value at an index list of what has so many zeroes before it along an axis, and others behind
+-- the value at an index list of a tensor of dims ds that is padded along an axis: `before` zeroes
+-- precede its values, and zeroes follow them
 abbrev pub padded_along : ℕ → ℕ → List ℕ → (List ℕ → ℤ) → List ℕ → ℤ
 padded_along axis before ds a is =
     if nat_le before (slice_index is axis)

@@ -11,7 +11,7 @@ use Rattle.tensor_values.specs.declared.operations.UnaryScalar.TheVariants as on
 use Rattle.tensor_values.specs.declared.operations.BinaryScalar.{BinaryScalar}
 use Rattle.tensor_values.specs.declared.operations.BinaryScalar.TheVariants as two
 
--- a value is true where it isn't 0
+-- a value is true if it isn't 0
 abbrev pub is_true : ℤ → Bool
 is_true x = not (int_eq x (pos 0))
 
@@ -19,7 +19,7 @@ is_true x = not (int_eq x (pos 0))
 abbrev pub truth : Bool → ℤ
 truth holds = if holds then pos 1 else pos 0
 
--- the operation on one value
+-- the result of an operation on one value
 abbrev pub applied : UnaryScalar → ℤ → ℤ
 applied one.Neg x = wrap (neg_ℤ x)
 applied one.Abs x = wrap (pos (unsigned_abs x))
@@ -27,7 +27,7 @@ applied one.Square x = wrap (x *ℤ x)
 applied one.Not x = truth (not (is_true x))
 applied one.BitNot x = int_bit_not w64 x
 
--- the operation on two values
+-- the result of an operation on two values
 abbrev pub combined : BinaryScalar → ℤ → ℤ → ℤ
 combined two.Add x y = wrap (x +ℤ y)
 combined two.Sub x y = wrap (x -ℤ y)

@@ -1,5 +1,5 @@
-//! Division that rounds down, and shifts, for each two values: none is left out, as 0 for a divisor
-//! or a shift by more places than there are.
+//! Division rounded down, and shifts, defined for all pairs of values. Division by 0 gives 0. A
+//! change touches `specs/Division`, and `specs/private/Rounding` if it turns the rounding.
 
 ghost use Rattle.std.specs.Prelude.{◌≡◌, ◌≢◌, ℤ, pos};
 ghost use Rattle.tensor_shape.specs.Wrap.{wrap};
@@ -7,7 +7,7 @@ ghost use Rattle.tensor_values.specs.Division.{floor_quotient, remainder, AreDiv
 ghost use Rattle.tensor_values.specs.Division.{shifted_left, shifted_right};
 ghost use Rattle.tensor_values.specs.private.Rounding.{is_rounded_up};
 
-/// The quotient rounded down, modulo 2^64; by 0 it is 0.
+/// Returns the quotient rounded down, modulo 2^64; 0 if the divisor is 0.
 #[inline(always)]
 pub fn floor_quotient(x: i64, y: i64) -> i64
     ensures { result ≡ wrap (floor_quotient x y) }
@@ -23,7 +23,8 @@ pub fn floor_quotient(x: i64, y: i64) -> i64
     }
 }
 
-/// What the quotient that is rounded down leaves, of the divisor's sign; by 0 it is 0.
+/// Returns the remainder of the division rounded down, which has the sign of the divisor; 0 if the
+/// divisor is 0.
 #[inline(always)]
 pub fn remainder(x: i64, y: i64) -> i64
     ensures { result ≡ remainder x y }
@@ -39,13 +40,15 @@ pub fn remainder(x: i64, y: i64) -> i64
     }
 }
 
-/// A quotient and what it leaves make the number again, and what it leaves lies between 0 and the
-/// divisor: there are no other two that do.
+/// States that a quotient times its divisor plus the remainder is the dividend, and that the
+/// remainder lies between 0 and the divisor. Only one pair of numbers is like this. The function
+/// does nothing.
 pub fn quotients_leave_remainders()
     ensures { (x y : ℤ) → y ≢ pos 0 → AreDivided x y (floor_quotient x y) (remainder x y) }
 {}
 
-/// Whether a quotient rounded toward 0 is above the one that is rounded down, by what it leaves.
+/// Whether the quotient rounded toward 0 is one above the quotient rounded down: the remainder is
+/// not 0, and its sign is not the sign of the divisor.
 #[inline(always)]
 fn is_rounded_up(rest: i64, divisor: i64) -> bool
     ensures { result ≡ is_rounded_up rest divisor }
@@ -53,7 +56,7 @@ fn is_rounded_up(rest: i64, divisor: i64) -> bool
     (rest < 0 && 0 < divisor) || (0 < rest && divisor < 0)
 }
 
-/// A value times two, so often, modulo 2^64.
+/// Returns x times 2^count, modulo 2^64; 0 if the count is below 0 or above 63.
 #[inline(always)]
 pub fn shifted_left(x: i64, count: i64) -> i64
     ensures { result ≡ wrap (shifted_left x count) }
@@ -65,7 +68,8 @@ pub fn shifted_left(x: i64, count: i64) -> i64
     }
 }
 
-/// A value divided by two, so often, rounded down.
+/// Returns x divided by 2^count, rounded down. A count below 0 or above 63 gives 0, or -1 for a
+/// negative x.
 #[inline(always)]
 pub fn shifted_right(x: i64, count: i64) -> i64
     ensures { result ≡ shifted_right x count }

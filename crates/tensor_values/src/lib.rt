@@ -1,5 +1,6 @@
-//! What is done to single values, integers of 64 bits that wrap: the operations on one and on two
-//! of them, the reducers, and the turns that the places of two lists take in one.
+//! Operations on single values, which are 64-bit integers that wrap: on one value and on two, the
+//! reducers, and the turns in which the places of two lists alternate. A new operation is a variant
+//! in `operations.rt` or `reducer.rt`; then the prover names each match that misses it.
 #![tactic(auto)]
 
 mod division;

@@ -1,11 +1,12 @@
-//! The operations on single values.
+//! The operations on single values. A change of a variant touches `specs/Scalars`, and the matches
+//! of tensor_terms, tensor_loops, tensor_reduce, expr_reader and prepared_expressions.
 
 ghost use Rattle.std.specs.Prelude.{◌≡◌};
 ghost use Rattle.tensor_values.specs.Scalars.{is_true, truth, applied, combined};
 
 use crate::division::{floor_quotient, remainder, shifted_left, shifted_right};
 
-/// The operations on one value.
+/// An operation on one value.
 #[derive(Clone, Copy, Debug, Drop, Eq, PartialEq)]
 pub enum UnaryScalar {
     Neg,
@@ -15,7 +16,8 @@ pub enum UnaryScalar {
     BitNot,
 }
 
-/// The operations on two values.
+/// An operation on two values. A comparison or a logical operation gives 1 for true and 0 for
+/// false.
 #[derive(Clone, Copy, Debug, Drop, Eq, PartialEq)]
 pub enum BinaryScalar {
     Add,
@@ -40,7 +42,7 @@ pub enum BinaryScalar {
     ShiftRight,
 }
 
-/// The operation on one value, modulo 2^64.
+/// Returns the result of an operation on one value, modulo 2^64.
 #[inline(always)]
 pub fn applied(operation: UnaryScalar, x: i64) -> i64
     ensures { result ≡ applied operation x }
@@ -54,7 +56,7 @@ pub fn applied(operation: UnaryScalar, x: i64) -> i64
     }
 }
 
-/// The operation on two values, modulo 2^64.
+/// Returns the result of an operation on two values, modulo 2^64.
 #[inline(always)]
 pub fn combined(operation: BinaryScalar, x: i64, y: i64) -> i64
     ensures { result ≡ combined operation x y }
@@ -83,7 +85,7 @@ pub fn combined(operation: BinaryScalar, x: i64, y: i64) -> i64
     }
 }
 
-/// Whether a value is true, which each is but 0.
+/// Whether a value is true: every value but 0 is.
 #[inline(always)]
 pub fn is_true(x: i64) -> bool
     ensures { result ≡ is_true x }
@@ -91,7 +93,7 @@ pub fn is_true(x: i64) -> bool
     x != 0
 }
 
-/// 1 for true and 0 for false.
+/// Returns 1 for true and 0 for false.
 #[inline(always)]
 fn truth(holds: bool) -> i64
     ensures { result ≡ truth holds }

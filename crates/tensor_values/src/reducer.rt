@@ -1,30 +1,33 @@
-//! The ways to combine the values of a reduction.
+//! The ways to combine the values of a reduction. A change of a variant touches `specs/Combining`,
+//! and the matches of tensor_loops, tensor_ops, tensor_reduce and expr_reader. Those crates combine
+//! values in any order and in parts, so an operation here must be associative and commutative.
 
 ghost use Rattle.std.specs.Prelude.{◌≡◌};
 ghost use Rattle.tensor_values.specs.Combining.{unit, combine};
 
 use crate::operations::{BinaryScalar, combined};
 
-/// How a reduction combines two values, as Eigen's reducers do. Whatever the order in which values
-/// are combined, the result is the same.
+/// How a reduction combines two values, as Eigen's reducers do. The order in which values are
+/// combined doesn't change the result.
 #[derive(Clone, Copy, Debug, Drop, Eq, PartialEq)]
 pub enum Reducer {
-    /// By addition modulo 2^64.
+    /// The sum modulo 2^64.
     Sum,
-    /// By multiplication modulo 2^64.
+    /// The product modulo 2^64.
     Prod,
-    /// The greater.
+    /// The greater value.
     Max,
-    /// The lesser.
+    /// The lesser value.
     Min,
-    /// Whether both are true.
+    /// 1 if both values are true, else 0.
     All,
-    /// Whether one is true.
+    /// 1 if one of the values or both are true, else 0.
     Any,
 }
 
 impl Reducer {
-    /// What no values give. Combined with a value it gives that value, or whether it is true.
+    /// Returns the result of a reduction of no values. Combined with a value, it gives this value;
+    /// for `All` and `Any`, it gives 1 if the value is true, else 0.
     #[inline(always)]
     pub fn unit(self) -> i64
         ensures { result ≡ unit self }
@@ -37,7 +40,7 @@ impl Reducer {
         }
     }
 
-    /// Two values combined.
+    /// Returns two values combined.
     #[inline(always)]
     pub fn combine(self, x: i64, y: i64) -> i64
         ensures { result ≡ combine self x y }

@@ -1,13 +1,17 @@
-//! Two operands in turns: so many places of the first, then so many of the second, and so on to the
-//! end of both.
+//! Two operands that alternate: n places of the first, then m places of the second, and so on to
+//! the end of both. Concatenations and pads are read like this. A change touches
+//! `specs/Interleaving`, `interleaved_index` of tensor_terms and `gather/interleaved` of
+//! tensor_loops.
 
 ghost use Rattle.std.specs.Prelude.{◌≡◌, ◌<◌, ◌≤◌, ◌+◌, ◌-◌, ◌%◌, min, if◌then◌else◌};
 ghost use Rattle.tensor_shape.specs.Legal.{most_elements};
 
-/// How many places of each operand there are in a turn.
+/// How many places each operand has in one turn.
 #[derive(Clone, Copy, Drop)]
 pub struct Turns {
+    /// Places of the first operand in a turn.
     pub first: usize,
+    /// Places of the second operand in a turn.
     pub second: usize,
     ghost some: { 0 < first + second },
     ghost few: { first + second ≤ most_elements },
@@ -24,8 +28,8 @@ impl Turns {
         place % (self.first + self.second) < self.first
     }
 
-    /// How many places of the first operand there are before a place. Where it is one of them, that
-    /// is its place in the operand.
+    /// Returns how many places of the first operand precede a place. If the place itself is one of
+    /// the first operand, this is its place in that operand.
     pub fn firsts_before(self, place: usize) -> usize
         ensures { result ≡ firsts_before self.first self.second place }
     {
@@ -33,7 +37,8 @@ impl Turns {
         place / width * self.first + (place % width).min(self.first)
     }
 
-    /// How many places of the second operand there are before a place.
+    /// Returns how many places of the second operand precede a place. If the place itself is one of
+    /// the second operand, this is its place in that operand.
     pub fn seconds_before(self, place: usize) -> usize
         ensures { result ≡ seconds_before self.first self.second place }
     {
@@ -41,7 +46,8 @@ impl Turns {
         place / width * self.second + (place % width).saturating_sub(self.first)
     }
 
-    /// Where the places that follow a place in the same operand end, at the latest at a limit.
+    /// Returns the end of the run of places of one operand in which a place lies, or `limit` if the
+    /// run is longer.
     pub fn end_after(self, place: usize, limit: usize) -> usize
         requires { place < limit }
         ensures end { result ≡ min (end_of_turn self.first self.second place) limit }

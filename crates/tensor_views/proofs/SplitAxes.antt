@@ -68,7 +68,7 @@ mul-suc m k = grind arith
 mul-assoc : (a b c : ℕ) → a * (b * c) ≡ a * b * c
 mul-assoc a b c = grind arith
 
--- the same axes with one before them
+-- equal views stay equal with an axis before them
 pub same-cons : (a : Axis) (xs ys : List Axis) → IsSameView xs ys → IsSameView (a ∷ xs) (a ∷ ys)
 same-cons a xs ys same = record {
   size = ap (λ n. a.size * n) same.size;

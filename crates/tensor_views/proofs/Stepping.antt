@@ -64,7 +64,7 @@ strides_from-short ds k within =
     ≡ get_or (strides_from 1 ds) k 0 * get_or ds k 0 = grind arith in
     omega (arith, short, span, swapped)
 
--- so many short axes
+-- an index list of short axes has a small sum
 pub stepped-le : (ts ds is : List ℕ) (limit : ℕ) → IsIndexOf ds is
     → ((k : ℕ) → k < length ds → get_or ds k 0 * get_or ts k 0 ≤ limit)
     → stepped ts is ≤ length ds * limit

@@ -1,4 +1,4 @@
--- The axes of a view, and what a movement makes of them.
+-- The axes of a view, and the view of a movement over it.
 use Rattle.std.specs.Prelude.{◌≡◌, ℕ, ◌+◌, ◌*◌, ◌<◌, List, [], ◌∷◌, length, map}
 use Rattle.std.specs.Prelude.{slice_index, slice_index_or, remove, min}
 use Rattle.std.specs.Int.{div_ceil}
@@ -8,44 +8,44 @@ use Rattle.tensor_terms.specs.Term.{stride}
 use Rattle.tensor_views.specs.Forward.{forward, no_axis}
 use Rattle.tensor_views.specs.declared.axis.Axis.{Axis}
 
--- the axes of dims, where the first has a step
+-- the axes of all places of dims, if neighbours along the first axis lie `step` apart
 abbrev pub axes_from : ℕ → List ℕ → List Axis
 axes_from step [] = []
 axes_from step (d ∷ ds) = forward d step ∷ axes_from (step * d) ds
 
--- each has the size of its dimension, and goes up
+-- whether each axis has the size of its dimension and goes up
 abbrev pub are_along : List Axis → List ℕ → Bool
 are_along [] [] = true
 are_along [] (d ∷ ds) = false
 are_along (a ∷ rest) [] = false
 are_along (a ∷ rest) (d ∷ ds) = (nat_eq a.size d && not a.reversed) && are_along rest ds
 
--- the steps of an index list, added up
+-- the sum of each index times the step of its axis
 abbrev pub by_steps : List Axis → List ℕ → ℕ
 by_steps [] is = 0
 by_steps (a ∷ rest) [] = 0
 by_steps (a ∷ rest) (i ∷ is) = i * a.step + by_steps rest is
 
--- each axis, and then as often from its start
+-- each axis, followed by an axis of step 0 that repeats it
 abbrev pub repeated_axes : List Axis → List ℕ → List Axis
 repeated_axes [] cs = []
 repeated_axes (a ∷ rest) [] = []
 repeated_axes (a ∷ rest) (c ∷ cs) = a ∷ forward c 0 ∷ repeated_axes rest cs
 
--- the axes, cut to sizes
+-- the axes with other sizes
 abbrev pub cut_axes : List Axis → List ℕ → List Axis
 cut_axes [] es = []
 cut_axes (a ∷ rest) [] = []
 cut_axes (a ∷ rest) (e ∷ es) = forward e a.step ∷ cut_axes rest es
 
--- the axes, reversed where they are flagged
+-- the axes with the direction down where the flag is set
 abbrev pub reversed_axes : List Axis → List Bool → List Axis
 reversed_axes [] fs = []
 reversed_axes (a ∷ rest) [] = []
 reversed_axes (a ∷ rest) (f ∷ fs) =
     record { size = a.size; step = a.step; reversed = f } ∷ reversed_axes rest fs
 
--- the axes, of which only each so many-th place is reached, of one that ends before that the first
+-- the axes that read every step-th place; if an axis is shorter than its step, only the first place
 abbrev pub strided_axes : List Axis → List ℕ → List Axis
 strided_axes [] ss = []
 strided_axes (a ∷ rest) [] = []
@@ -56,7 +56,7 @@ strided_axes (a ∷ rest) (s ∷ ss) =
 abbrev pub shuffled_axes : List Axis → List ℕ → List Axis
 shuffled_axes axes order = map (λ s. slice_index_or axes s no_axis) order
 
--- the arguments are for so many axes
+-- the arguments of a movement are for n axes
 abbrev pub HasRank : Movement → ℕ → Type 0
 HasRank (broadcast counts) n = length counts ≡ n
 HasRank (slice offsets extents) n = (length offsets ≡ n) × (length extents ≡ n)
@@ -66,12 +66,12 @@ HasRank (chip offset axis) n = axis < n
 HasRank (reverse flags) n = length flags ≡ n
 HasRank (stride steps) n = (length steps ≡ n) × ((k : ℕ) → k < n → 0 < slice_index steps k)
 
--- each axis spans fewer places than that
+-- each axis spans fewer than n places
 abbrev pub AreShort : List Axis → ℕ → Type 0
 AreShort axes n = (k : ℕ) → k < length axes
     → (slice_index_or axes k no_axis).step * (slice_index_or axes k no_axis).size < n
 
--- the axes of a movement, from those of its operand
+-- the axes of the view of a movement
 abbrev pub moved_axes : Movement → List Axis → List Axis
 moved_axes (broadcast counts) axes = repeated_axes axes counts
 moved_axes (slice offsets extents) axes = cut_axes axes extents
@@ -81,7 +81,7 @@ moved_axes (chip offset axis) axes = remove axes axis
 moved_axes (reverse flags) axes = reversed_axes axes flags
 moved_axes (stride steps) axes = strided_axes axes steps
 
--- where the view of a movement starts, from where that of its operand does
+-- the start of the view of a movement, given the start and the axes of the operand's view
 abbrev pub moved_start : Movement → ℕ → List Axis → ℕ
 moved_start (broadcast counts) start axes = start
 moved_start (slice offsets extents) start axes = start + by_steps axes offsets

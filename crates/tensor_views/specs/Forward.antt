@@ -6,6 +6,6 @@ use Rattle.tensor_views.specs.declared.axis.Axis.{Axis}
 abbrev pub forward : ℕ → ℕ → Axis
 forward size step = record { size = size; step = step; reversed = false }
 
--- what stands in the place of an axis that is not there
+-- the axis that stands for one that doesn't exist
 abbrev pub no_axis : Axis
 no_axis = forward 0 0

@@ -1,7 +1,7 @@
--- Index lists by the steps of their axes.
+-- Sums of index lists times the steps of their axes.
 use Rattle.std.specs.Prelude.{ℕ, ◌+◌, ◌*◌, List, [], ◌∷◌}
 
--- each number times the step of its axis, added up
+-- the sum of each index times the step of its axis
 abbrev pub stepped : List ℕ → List ℕ → ℕ
 stepped [] is = 0
 stepped (t ∷ ts) [] = 0

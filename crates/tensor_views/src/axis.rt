@@ -1,14 +1,17 @@
-//! Axes of views: a size, and how far the next place along it is, up or down.
+//! One axis of a view. A change of the fields touches `specs/View`, `specs/Forward` and the loops
+//! of tensor_loops.
 
 ghost use Rattle.std.specs.Prelude.{◌≡◌, ◌<◌, ◌+◌, ◌*◌, ◌^◌};
 ghost use Rattle.tensor_views.specs.View.{steps_to};
 
-/// One axis of the result: its size, and how far its next place is in the operand.
+/// One axis of a view: along it, `size` places of the operand lie `step` apart.
 #[derive(Clone, Copy, Drop)]
 pub struct Axis {
+    /// The number of places.
     pub size: usize,
+    /// The distance of neighbouring places in the operand; 0 repeats one place.
     pub step: usize,
-    /// Whether the places go down along it.
+    /// Whether the places go down: index 0 then reads the highest place.
     pub reversed: bool,
 }
 
@@ -20,7 +23,8 @@ pub(crate) const ALONE: Axis = Axis {
 };
 
 impl Axis {
-    /// The same axis, with its step and its way as the compiler knows them where they are constants.
+    /// Returns this axis. The arguments give its step and direction again, so that the compiler
+    /// knows them where the caller passes constants.
     #[inline(always)]
     pub fn known(self, step: usize, reversed: bool) -> Self
         requires step { self.step ≡ step }
@@ -35,7 +39,7 @@ impl Axis {
     }
 }
 
-/// The place that an index along an axis is from a row's start.
+/// Returns the place of an index along an axis, if the row starts at `row`.
 #[inline(always)]
 pub(crate) fn along_axis(row: usize, axis: Axis, index: usize) -> usize
     requires index { index < axis.size }
@@ -45,7 +49,7 @@ pub(crate) fn along_axis(row: usize, axis: Axis, index: usize) -> usize
     row + steps_to(axis, index) * axis.step
 }
 
-/// How many steps an index along an axis is.
+/// Returns how many steps an index lies from the lowest place of the axis.
 #[inline(always)]
 pub fn steps_to(axis: Axis, index: usize) -> usize
     requires { index < axis.size }

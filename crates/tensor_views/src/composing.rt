@@ -1,5 +1,6 @@
-//! Views composed: a view over the places of another one, as one view. Each axis of the first is traced
-//! along an axis of the second, by steps that together stay within it.
+//! Composition of two views into one. Each axis of the first view is traced along the axes of the
+//! second. Not all pairs can be one view (README.md, "Limits"); a change of which pairs can touches
+//! `specs/Composing` and what tensor_ops stores instead.
 
 ghost use Rattle.std.specs.Prelude.{◌≡◌, ◌<◌, ◌+◌, ◌-◌, ◌*◌, ◌^◌, [], ◌∷◌, map};
 ghost use Rattle.std.specs.Prelude.{IfOk, IfSome, if◌then◌else◌};
@@ -12,18 +13,19 @@ use crate::axis::Axis;
 use crate::view::{View, ViewRef};
 use std::alloc::{AllocError, Global};
 
-/// An axis of the first view, on its way along the axes of the second.
+/// An axis of the first view while it is traced along the axes of the second view.
 #[derive(Clone, Copy, Drop)]
 pub(crate) enum Trace {
-    /// Its steps are among the places that are left.
+    /// The axis isn't traced yet: its step counts places of the second view's remaining axes.
     Open(Axis),
-    /// Its steps are in the operand.
+    /// The axis is traced: its step counts places of the operand.
     Traced(Axis),
 }
 
 impl ViewRef<'_> {
-    /// A view over the places of a second one, as one view, where each of its axes goes along one
-    /// axis of the second, or along several in whole turns.
+    /// Returns the view that reads `second` at the places of this view; `None` if that isn't found
+    /// to be one view. Each axis of this view must lie along one axis of the second, or go along
+    /// several in whole turns.
     pub fn then(self, alloc: Global, second: ViewRef<'_>) -> Result<Option<View>, AllocError>
         requires some { 0 < view_size second.axes.now }
         requires few { view_size second.axes.now < 2 ^ 32 }
@@ -53,7 +55,8 @@ impl ViewRef<'_> {
     }
 }
 
-/// How many steps of an axis its places from low to high are from its start, at least.
+/// Returns how many steps the places from index `low` to index `high` lie from the lowest place of
+/// an axis, at least.
 fn first_step(axis: Axis, low: usize, high: usize) -> usize
     requires { high < axis.size }
     ensures { result ≡ (if axis.reversed then axis.size - 1 - high else low) }
@@ -65,8 +68,8 @@ fn first_step(axis: Axis, low: usize, high: usize) -> usize
     }
 }
 
-/// Axes that reach the same places, of which none goes past an axis of the second view where it
-/// can be two that don't.
+/// Returns axes that reach the same places. An axis that passes the end of an axis of the second
+/// view is split in two where that is possible.
 fn refined(alloc: Global, axes: &[Axis], second: &[Axis]) -> Result<Vec<Axis>, AllocError>
     requires some { 0 < view_size second.now }
     requires few { view_size second.now < 2 ^ 32 }
@@ -82,7 +85,8 @@ fn refined(alloc: Global, axes: &[Axis], second: &[Axis]) -> Result<Vec<Axis>, A
     Ok(refined)
 }
 
-/// The axes, of which each that goes past a stride in whole turns is two.
+/// Splits each axis that passes `stride` in whole turns: one axis within the stride, and one that
+/// steps by it.
 fn split_axes(alloc: Global, axes: &[Axis], stride: usize) -> Result<Vec<Axis>, AllocError>
     ensures { IfOk result (λ v. v.items ≡ split_axes stride axes.now) }
 {
@@ -107,7 +111,8 @@ fn split_axes(alloc: Global, axes: &[Axis], stride: usize) -> Result<Vec<Axis>, 
     Ok(parts)
 }
 
-/// Whether an axis goes past a stride, by several of its steps, in whole turns.
+/// Whether an axis passes a stride in whole turns: the stride is several of its steps, fewer than
+/// its size, and the size is a multiple of the number of these steps.
 fn is_split(axis: Axis, stride: usize) -> bool
     ensures { result ≡ is_split stride axis }
 {
@@ -118,7 +123,7 @@ fn is_split(axis: Axis, stride: usize) -> bool
         && axis.size % (stride / axis.step) == 0
 }
 
-/// A trace for each axis.
+/// Returns an open trace for each axis.
 fn open(alloc: Global, axes: &[Axis]) -> Result<Vec<Trace>, AllocError>
     ensures { IfOk result (λ v. v.items ≡ map opened axes.now) }
 {
@@ -129,7 +134,8 @@ fn open(alloc: Global, axes: &[Axis]) -> Result<Vec<Trace>, AllocError>
     Ok(traces)
 }
 
-/// How far traces go along the first axis of those that are left.
+/// Returns how far the open traces reach along `first`, the first remaining axis of the second
+/// view.
 fn extent_along(first: Axis, traces: &[Trace]) -> usize
     requires size { 0 < first.size }
     requires fits { extent_along first traces.now < 2 ^ 32 }
@@ -149,7 +155,8 @@ fn extent_along(first: Axis, traces: &[Trace]) -> usize
     }
 }
 
-/// Whether an axis has its steps along the first one of those that are left.
+/// Whether an axis has its steps along `first`, the first remaining axis of the second view. If
+/// not, its step is a multiple of the size of `first`, or it has at most one place.
 fn goes_along(first: Axis, axis: Axis) -> bool
     requires { 0 < first.size }
     ensures { result ≡ goes_along first axis }
@@ -157,7 +164,7 @@ fn goes_along(first: Axis, axis: Axis) -> bool
     1 < axis.size && axis.step % first.size != 0
 }
 
-/// The traces, once the first axis is dealt with.
+/// Returns the traces after `first`, the first remaining axis of the second view.
 fn all_passed(alloc: Global, first: Axis, traces: &[Trace]) -> Result<Vec<Trace>, AllocError>
     requires size { 0 < first.size }
     requires fits { extent_along first traces.now * first.step < 2 ^ 32 }
@@ -170,7 +177,8 @@ fn all_passed(alloc: Global, first: Axis, traces: &[Trace]) -> Result<Vec<Trace>
     Ok(after)
 }
 
-/// A trace, once the first axis is dealt with.
+/// Returns a trace after `first`, the first remaining axis of the second view: traced if its steps
+/// lie along `first`.
 fn passed(first: Axis, trace: Trace) -> Trace
     requires size { 0 < first.size }
     requires fits { extent_along first (trace ∷ []) * first.step < 2 ^ 32 }
@@ -188,7 +196,8 @@ fn passed(first: Axis, trace: Trace) -> Trace
     }
 }
 
-/// An axis along the first one, with the steps of both.
+/// Returns the axis that lies along `first`: the steps are multiplied, and two directions down make
+/// one up.
 fn traced_by(first: Axis, axis: Axis) -> Axis
     requires { axis.step * first.step < 2 ^ 32 }
     ensures { result ≡ traced_by first axis }
@@ -204,7 +213,7 @@ fn traced_by(first: Axis, axis: Axis) -> Axis
     }
 }
 
-/// An axis past the first one.
+/// Returns an axis whose steps lie past `first`, with its step counted in places of the other axes.
 fn beyond(first: Axis, axis: Axis) -> Axis
     requires { 0 < first.size }
     ensures { result ≡ beyond first axis }
@@ -216,7 +225,7 @@ fn beyond(first: Axis, axis: Axis) -> Axis
     }
 }
 
-/// The axes of traces in the operand.
+/// Returns the axes of traces, with their steps in the operand.
 fn traced_axes(alloc: Global, traces: &[Trace]) -> Result<Vec<Axis>, AllocError>
     ensures { IfOk result (λ v. v.items ≡ map traced_axis traces.now) }
 {
@@ -227,7 +236,7 @@ fn traced_axes(alloc: Global, traces: &[Trace]) -> Result<Vec<Axis>, AllocError>
     Ok(axes)
 }
 
-/// The axis of a trace in the operand.
+/// Returns the axis of a trace, with its step in the operand. An open trace reaches one place.
 fn traced_axis(trace: Trace) -> Axis
     ensures { result ≡ traced_axis trace }
 {

@@ -1,13 +1,7 @@
-//! Strided views: a start, and for each axis a size, a step and a way, up or down. A view tells which
-//! places of an operand are read, in the order of the result's places.
-//!
-//! ```text
-//! dims [2, 3]                      start 0, axes (2, step 1), (3, step 2)     0 1 2 3 4 5
-//!  │ a movement: shuffle by 1, 0
-//! its view                         start 0, axes (3, step 2), (2, step 1)     0 2 4 1 3 5
-//!  │ and one after another: reverse the first axis
-//! both as one view                 start 0, axes (3, step 2, down), (2, step 1)     4 2 0 5 3 1
-//! ```
+//! Strided views: a start, and for each axis a size, a step and a direction, up or down. A view
+//! says which places of an operand are read, in the order of the result's places. README.md has an
+//! example. tensor_terms defines what movements read, and this crate is proved against that;
+//! tensor_loops and tensor_ops read through these views.
 #![tactic(auto)]
 
 mod axis;

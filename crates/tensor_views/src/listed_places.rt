@@ -1,5 +1,5 @@
-//! The operand's places for a list of a view's places. A row of the first axis is looked up once for
-//! those of it that follow one another.
+//! The operand's places for a list of a view's places. The start of a row is computed once for
+//! neighbours in the list that lie in the same row. `mapping.rt` uses these rows too.
 
 ghost use Rattle.std.specs.Prelude.{◌≡◌, ◌<◌, ◌*◌, ◌/◌, ◌^◌, ◌∷◌, ℕ, length, map};
 ghost use Rattle.std.specs.Prelude.{IfOk, slice_index};
@@ -9,15 +9,17 @@ use crate::axis::{ALONE, Axis, steps_to};
 use crate::view::ViewRef;
 use std::alloc::{AllocError, Global};
 
-/// A row of a view: its first place, and where it starts in the operand.
+/// A row of a view: the places with equal indices at all axes but the first.
 #[derive(Clone, Copy, Drop)]
 pub(crate) struct ViewRow {
+    /// The first place of the row in the view.
     pub(crate) first: usize,
+    /// The operand's place from which the steps of the first axis count.
     pub(crate) start: usize,
 }
 
-/// The operand's places for a list of places. A row of the first axis is looked up once for those
-/// of it that follow one another.
+/// Returns the operand's place for each place in a list. A place in the row of the place before it
+/// costs no division.
 pub fn looked_up(alloc: Global, view: ViewRef<'_>, places: &[u32]) -> Result<Vec<u32>, AllocError>
     requires within { (k : ℕ) → k < length places.now
         → slice_index places.now k < view_size view.axes.now }
@@ -45,7 +47,7 @@ pub fn looked_up(alloc: Global, view: ViewRef<'_>, places: &[u32]) -> Result<Vec
     Ok(sources)
 }
 
-/// The first axis and the slower ones. Where there is none, one place is an axis.
+/// Returns the first axis and the slower ones. A view without axes has a first axis of one place.
 pub(crate) fn first_axis(axes: &[Axis]) -> (Axis, &[Axis])
     ensures size { view_size (result.0 ∷ result.1.now) ≡ view_size axes.now }
     ensures reached { (start : ℕ) → (p : ℕ)
@@ -57,7 +59,7 @@ pub(crate) fn first_axis(axes: &[Axis]) -> (Axis, &[Axis])
     }
 }
 
-/// The row of a place: this one where it lies in it, and else another.
+/// Returns the row of a place: `row` if the place lies in it, else computed anew.
 #[inline(always)]
 pub(crate) fn row_with(row: ViewRow, axis: Axis, slower: ViewRef<'_>, place: usize) -> ViewRow
     requires size { 0 < axis.size }
@@ -75,7 +77,7 @@ pub(crate) fn row_with(row: ViewRow, axis: Axis, slower: ViewRef<'_>, place: usi
     row_of(axis, slower, place)
 }
 
-/// The row of a place, by a division an axis.
+/// Returns the row of a place, by one division for each axis.
 pub(crate) fn row_of(axis: Axis, slower: ViewRef<'_>, place: usize) -> ViewRow
     requires size { 0 < axis.size }
     requires within { place / axis.size < view_size slower.axes.now }

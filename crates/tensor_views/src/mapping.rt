@@ -1,5 +1,6 @@
-//! Tables of places, of which each of one is added to each of another, mapped along a view: where no
-//! carry comes between them, what is added up is mapped as well.
+//! Tables of places, of which each entry of one is added to each entry of another, mapped through a
+//! view. If no sum carries from one axis into the next, the mapped entries can be added instead. A
+//! change touches `specs/View` (`AreAllApart`) and the contractions of tensor_ops.
 
 ghost use Rattle.std.specs.Prelude.{◌≡◌, ◌<◌, ◌≤◌, ◌+◌, ◌*◌, ◌%◌, ◌^◌, ℕ, length, slice_index};
 ghost use Rattle.std.specs.Prelude.{IsTrue};
@@ -9,10 +10,11 @@ use crate::axis::{Axis, along_axis};
 use crate::listed_places::{first_axis, row_of, row_with};
 use crate::view::ViewRef;
 
-/// Whether the places of two tables, by so many each, can be added up with no carry along the axes,
-/// of which none is reversed: what is left of them within the first axes, added up, stays within these.
-/// Along the last axis it does, since the sums are places. A division a place and an axis, but where a
-/// place is near the one before.
+/// Whether the places of two tables, each divided by `before`, can be added without a carry from
+/// one of these axes into the next. No axis may be reversed. For each axis but the last, the
+/// greatest remainders of both tables by the number of places up to the end of the axis must add up
+/// to less than that number. Costs one division for each entry and axis, and none for an entry that
+/// is near the one before it.
 pub fn are_apart(axes: &[Axis], before: usize, starts: &[usize], offsets: &[usize]) -> bool
     requires before { 0 < before }
     requires some { 0 < view_size axes.now }
@@ -40,7 +42,7 @@ pub fn are_apart(axes: &[Axis], before: usize, starts: &[usize], offsets: &[usiz
     are_apart(slower, span, starts, offsets)
 }
 
-/// The greatest of what is left of the places of a table where as many spans as go are taken off.
+/// Returns the greatest remainder by `span` of the entries of a table; 0 for an empty table.
 fn greatest_rest(places: &[usize], span: usize) -> usize
     requires { 0 < span }
     ensures below { result < span }
@@ -55,7 +57,8 @@ fn greatest_rest(places: &[usize], span: usize) -> usize
     greatest
 }
 
-/// What is left of a place, from what is left of the last one: where they are near, without a division.
+/// Returns the remainder of a place by `span`, given the remainder of the last place. Places that
+/// are near each other need no division.
 #[inline(always)]
 fn next_rest(last: usize, rest: usize, place: usize, span: usize) -> usize
     requires some { 0 < span }
@@ -74,8 +77,9 @@ fn next_rest(last: usize, rest: usize, place: usize, span: usize) -> usize
     place % span
 }
 
-/// The places become those that a view reaches for them. A division a place; where one isn't in the
-/// row of the second axis that the last one was in, another for each axis.
+/// Replaces each place by the operand's place that the view reaches for it. Costs one division for
+/// each place; one more for each axis if the place isn't in the same row of the second axis as the
+/// place before it.
 pub fn map_through(places: &mut Vec<usize>, view: ViewRef<'_>)
     requires within { (k : ℕ) → k < length places.old.items
         → slice_index places.old.items k < view_size view.axes.now }

@@ -1,4 +1,5 @@
-//! Views of whole dims, and what a movement makes of one.
+//! Views of whole dims, and the views of movements over them. A new movement needs its cases in
+//! `specs/Axes` and lemmas in `proofs/Moves`; the definition of what it reads is in tensor_terms.
 
 ghost use Rattle.std.specs.Prelude.{◌≡◌, ◌<◌, ◌≤◌, ◌+◌, ◌^◌, ℕ, length, slice_index, vec_len};
 ghost use Rattle.std.specs.Prelude.{IfOk, OnOk};
@@ -18,7 +19,7 @@ use tensor_shape::Dims;
 use tensor_terms::Movement;
 
 impl View {
-    /// All places of dims, in their order.
+    /// Returns the view of all places of dims, in their order.
     pub fn of(alloc: Global, dims: &Dims) -> Result<View, AllocError>
         ensures start { IfOk result (λ v. v.start ≡ 0) }
         ensures axes { IfOk result (λ v. v.axes.items ≡ axes_from 1 dims.now) }
@@ -31,8 +32,8 @@ impl View {
         })
     }
 
-    /// A movement of it, where its axes all rise, as those of [`View::of`] do: it cuts, turns and
-    /// repeats them from their starts.
+    /// Returns the view of a movement over this view, all of whose axes must go up, as in
+    /// [`View::of`]. Otherwise the result isn't a view of the movement.
     pub fn moved(self, alloc: Global, movement: Movement<'_>) -> Result<View, AllocError>
         requires rank { HasRank (movement_at movement) (vec_len self.axes) }
         requires fits { moved_start (movement_at movement) self.start self.axes.items < 2 ^ 32 }
@@ -49,7 +50,7 @@ impl View {
     }
 }
 
-/// The axes of all places of dims, in their order.
+/// Returns the axes of all places of dims, in their order.
 fn whole_axes(alloc: Global, dims: &Dims) -> Result<Vec<Axis>, AllocError>
     ensures axes { IfOk result (λ v. v.items ≡ axes_from 1 dims.now) }
     ensures few { OnOk result (size_of dims.now ≤ most_elements) }
@@ -66,7 +67,7 @@ fn whole_axes(alloc: Global, dims: &Dims) -> Result<Vec<Axis>, AllocError>
     Ok(axes)
 }
 
-/// Where a movement of a view starts.
+/// Returns the start of the view of a movement.
 fn moved_start(movement: Movement<'_>, view: ViewRef<'_>) -> usize
     requires rank { HasRank (movement_at movement) (length view.axes.now) }
     requires fits { moved_start (movement_at movement) view.start view.axes.now < 2 ^ 32 }
@@ -85,7 +86,7 @@ fn moved_start(movement: Movement<'_>, view: ViewRef<'_>) -> usize
     }
 }
 
-/// The axes of a movement, from those of its operand.
+/// Returns the axes of the view of a movement.
 fn moved_axes(
     alloc: Global,
     movement: Movement<'_>,
@@ -110,7 +111,7 @@ fn moved_axes(
     }
 }
 
-/// An axis along which the places go up.
+/// Returns an axis along which the places go up.
 fn forward(size: usize, step: usize) -> Axis
     ensures { result ≡ forward size step }
 {
@@ -121,7 +122,7 @@ fn forward(size: usize, step: usize) -> Axis
     }
 }
 
-/// A start, and the steps of an index list from there.
+/// Returns the start of a view plus the steps of an index list.
 fn start_at(view: ViewRef<'_>, index: &[u64]) -> usize
     requires rank { length index.now ≡ length view.axes.now }
     requires fits { view.start + by_steps view.axes.now index.now < 2 ^ 32 }
@@ -134,7 +135,7 @@ fn start_at(view: ViewRef<'_>, index: &[u64]) -> usize
     place
 }
 
-/// Each axis, and then as often from its start.
+/// Returns the axes of a broadcast: each axis, followed by an axis of step 0 that repeats it.
 fn repeated_axes(alloc: Global, axes: &[Axis], counts: &[u64]) -> Result<Vec<Axis>, AllocError>
     requires { length counts.now ≡ length axes.now }
     ensures { IfOk result (λ v. v.items ≡ repeated_axes axes.now counts.now) }
@@ -147,7 +148,7 @@ fn repeated_axes(alloc: Global, axes: &[Axis], counts: &[u64]) -> Result<Vec<Axi
     Ok(repeated)
 }
 
-/// The axes, cut to sizes.
+/// Returns the axes with other sizes.
 fn cut_axes(alloc: Global, axes: &[Axis], sizes: &[u64]) -> Result<Vec<Axis>, AllocError>
     requires { length sizes.now ≡ length axes.now }
     ensures { IfOk result (λ v. v.items ≡ cut_axes axes.now sizes.now) }
@@ -159,7 +160,7 @@ fn cut_axes(alloc: Global, axes: &[Axis], sizes: &[u64]) -> Result<Vec<Axis>, Al
     Ok(cut)
 }
 
-/// The axes in another order.
+/// Returns the axes in the given order.
 fn shuffled_axes(alloc: Global, axes: &[Axis], order: &[u64]) -> Result<Vec<Axis>, AllocError>
     requires { (k : ℕ) → k < length order.now → slice_index order.now k < length axes.now }
     ensures { IfOk result (λ v. v.items ≡ shuffled_axes axes.now order.now) }
@@ -171,7 +172,7 @@ fn shuffled_axes(alloc: Global, axes: &[Axis], order: &[u64]) -> Result<Vec<Axis
     Ok(shuffled)
 }
 
-/// The axes, reversed where they are flagged.
+/// Returns the axes with the direction down where the flag is set.
 fn reversed_axes(alloc: Global, axes: &[Axis], flags: &[bool]) -> Result<Vec<Axis>, AllocError>
     requires { length flags.now ≡ length axes.now }
     ensures { IfOk result (λ v. v.items ≡ reversed_axes axes.now flags.now) }
@@ -188,8 +189,8 @@ fn reversed_axes(alloc: Global, axes: &[Axis], flags: &[bool]) -> Result<Vec<Axi
     Ok(swapped)
 }
 
-/// The axes, of which only each so many-th place is reached. A step past the axis reaches its first
-/// place alone.
+/// Returns the axes that read every step-th place. A step above the size of an axis counts as the
+/// size, which reads only the first place and can't overflow.
 fn strided_axes(alloc: Global, axes: &[Axis], steps: &[u64]) -> Result<Vec<Axis>, AllocError>
     requires rank { length steps.now ≡ length axes.now }
     requires some { (k : ℕ) → k < length steps.now → 0 < slice_index steps.now k }

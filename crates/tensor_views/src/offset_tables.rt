@@ -1,4 +1,6 @@
-//! The places of index lists that are 0 but at some axes.
+//! Tables of places of index lists in two parts: an index list's place is the sum of two entries,
+//! so loops of contractions need no division. A change touches `specs/Offsets` and the tables of
+//! tensor_ops.
 
 ghost use Rattle.std.specs.Prelude.{◌≡◌, ◌<◌, ◌≤◌, ◌+◌, ◌*◌, ◌/◌, ◌%◌, ◌^◌, ℕ, length, drop, slice_index};
 ghost use Rattle.std.specs.Prelude.{IsTrue, IfOk};
@@ -13,9 +15,9 @@ use std::alloc::{AllocError, Global};
 use tensor_shape::Dims;
 use tensor_terms::{others, shuffled};
 
-/// Where the rows of an operand of these dims start, whose paired axes are these, in their order, and
-/// how far the values of a row are from there. Takes a number for each row, and one for each value of
-/// a row.
+/// Returns where each row of an operand starts, and how far each value of a row lies from its
+/// start. A row is the values along `axes`, in their order. Allocates a number for each row, and
+/// one for each value of a row.
 pub fn tables(
     alloc: Global,
     dims: &Dims,
@@ -32,9 +34,10 @@ pub fn tables(
     Ok((starts, offsets(alloc, dims, axes)?))
 }
 
-/// The places of the index lists with all numbers at some axes and 0 at the others, the first of
-/// these axes the fastest. Added to the place of an index list that is 0 at these axes they are the
-/// places of all index lists that agree with it at the others. Takes a number for each.
+/// Returns the places of the index lists that have any indices at `axes` and 0 at the other axes.
+/// The first of `axes` is the fastest. Added to the place of an index list that is 0 at `axes`,
+/// they are the places of all index lists that agree with it at the other axes. Allocates a number
+/// for each.
 pub fn offsets(alloc: Global, dims: &Dims, axes: &[u64]) -> Result<Vec<usize>, AllocError>
     requires { IsTrue (are_axes (length dims.now) axes.now) }
     ensures len { IfOk result (λ v. length v.items ≡ size_of (dims_at axes.now dims.now)) }
@@ -49,8 +52,8 @@ pub fn offsets(alloc: Global, dims: &Dims, axes: &[u64]) -> Result<Vec<usize>, A
     stepped_places(alloc, sizes.as_slice(), steps.as_slice(), 0)
 }
 
-/// For each index list of the sizes from an axis on, in order of their places, its numbers times
-/// the steps of their axes, added up. Takes a number for each.
+/// Returns, for each index list of the sizes from axis `first` on, in order of their places, the
+/// sum of each index times the step of its axis. Allocates a number for each index list.
 pub fn stepped_places(
     alloc: Global,
     sizes: &[u64],
@@ -74,7 +77,8 @@ pub fn stepped_places(
     Ok(places)
 }
 
-/// The places under an axis before all others, whose indices are a step apart.
+/// Returns the table with one more axis, which is the fastest: each entry plus each index times
+/// `step`.
 fn with_axis(
     alloc: Global,
     places: &[usize],

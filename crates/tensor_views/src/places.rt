@@ -1,11 +1,12 @@
-//! Places that values are asked for.
+//! The places at which values are asked for. tensor_ops passes them down an expression; a change
+//! touches `specs/Places` and every evaluator there.
 
-/// Places of a result. Each is below 2^20, so a list of them holds numbers of 32 bits.
+/// Places of a result. Each is below `MAX_ELEMENTS`, 2^28, so a list holds 32-bit numbers.
 #[derive(Clone, Copy, Drop)]
 pub enum Places<'a> {
-    /// From the first to before the last.
+    /// The places in `[first, last)`.
     Run(usize, usize),
-    /// These, in this order.
+    /// These places, in this order.
     Listed(&'a [u32]),
 }
 
@@ -13,7 +14,7 @@ impl Places<'_> {
     ghost use Rattle.std.specs.Prelude.{◌≡◌, length};
     ghost use Rattle.tensor_views.specs.Places.{places_of};
 
-    /// How many there are.
+    /// Returns how many places there are.
     pub fn len(&self) -> usize
         ensures { result ≡ length (places_of self.now) }
     {

@@ -1,21 +1,25 @@
-//! Parts of rows: so many places along one axis.
+//! Parts of rows, which are runs of places along one axis. The gathers of tensor_loops read them.
 
 ghost use Rattle.std.specs.Prelude.{◌≡◌, ℕ};
 ghost use Rattle.tensor_views.specs.View.{place_in, IsRowIn};
 
 use crate::axis::Axis;
 
-/// A part of a row: so many places along an axis, from an index on.
+/// A part of a row: `count` places along an axis, from index `from` on.
 #[derive(Clone, Copy, Drop)]
 pub struct Row {
+    /// The place from which the steps of the axis count.
     pub start: usize,
+    /// The axis.
     pub axis: Axis,
+    /// The first index.
     pub from: usize,
+    /// The number of places.
     pub count: usize,
 }
 
 impl Row {
-    /// One place, so many times.
+    /// Returns a row that reads place 0 `count` times.
     pub fn repeated(count: usize) -> Self
         ensures row { IsRowIn result 1 }
         ensures count { result.count ≡ count }
@@ -33,7 +37,7 @@ impl Row {
         }
     }
 
-    /// Places that lie side by side, from the first on.
+    /// Returns a row of the places in `[0, count)`.
     pub fn whole(count: usize) -> Self
         ensures row { IsRowIn result count }
         ensures count { result.count ≡ count }
@@ -51,7 +55,8 @@ impl Row {
         }
     }
 
-    /// The same part of a row, with the step and the way of its axis as the compiler knows them.
+    /// Returns this part of a row. The arguments give the step and direction of its axis again, so
+    /// that the compiler knows them where the caller passes constants.
     #[inline(always)]
     pub fn known(self, step: usize, reversed: bool) -> Self
         requires step { self.axis.step ≡ step }

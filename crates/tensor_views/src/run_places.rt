@@ -1,4 +1,5 @@
-//! The operand's places for a run of a view's places, row by row.
+//! The operand's places for a run of a view's places, row by row. tensor_ops gathers runs by
+//! `rows_of`.
 
 ghost use Rattle.std.specs.Prelude.{◌≡◌, ◌<◌, ◌≤◌, ◌-◌, ◌+◌, ◌*◌, ◌/◌, ◌^◌, ◌++◌, ℕ, length, map};
 ghost use Rattle.std.specs.Prelude.{IfOk, vec_len, vec_capacity};
@@ -9,7 +10,7 @@ use crate::axis::{ALONE, Axis, steps_to};
 use crate::view::ViewRef;
 use std::alloc::{AllocError, Global};
 
-/// The operand's places for a run.
+/// Returns the operand's places for the places in `[first, last)`.
 pub(crate) fn places_in_run(
     alloc: Global,
     view: ViewRef<'_>,
@@ -30,8 +31,8 @@ pub(crate) fn places_in_run(
     laid_out(alloc, &rows, axis, first, last)
 }
 
-/// The first axis that has steps, and where its rows start that have the places of a run: at the
-/// places that the slower axes reach.
+/// Returns an axis, and the starts of its rows that hold the places in `[first, last)`. The axis is
+/// the first one of the view that has more than one place, or one of a single place.
 pub fn rows_of(
     alloc: Global,
     view: ViewRef<'_>,
@@ -68,7 +69,8 @@ pub fn rows_of(
     Ok((*axis, rows))
 }
 
-/// The places of a run along an axis, from the starts of its rows.
+/// Returns the operand's places for the places in `[first, last)` along an axis, from the starts of
+/// its rows.
 fn laid_out(
     alloc: Global,
     rows: &[u32],
@@ -88,8 +90,8 @@ fn laid_out(
     Ok(places)
 }
 
-/// Appends the places of a run: for each row's start a row along the axis, the first row and the
-/// last cut to the run.
+/// Appends the operand's places for the places in `[first, last)`, row by row. The first and the
+/// last row are cut to the run.
 fn add_rows(places: &mut Vec<u32>, rows: &[u32], axis: Axis, first: usize, last: usize)
     requires size { 0 < axis.size }
     requires order { first ≤ last }
@@ -109,7 +111,7 @@ fn add_rows(places: &mut Vec<u32>, rows: &[u32], axis: Axis, first: usize, last:
     }
 }
 
-/// Appends a row's places from index to index.
+/// Appends the operand's places of one row for the indices in `[from, to)`.
 fn add_row(places: &mut Vec<u32>, row: usize, axis: Axis, from: usize, to: usize)
     requires order { from ≤ to }
     requires within { to ≤ axis.size }

@@ -1,4 +1,5 @@
-//! Strided views: which places of an operand are read, in the order of the result's places.
+//! Strided views: which places of an operand are read, in the order of the result's places. The
+//! meaning is `reached` in `specs/View`; a change of it touches all crates that read through views.
 
 ghost use Rattle.std.specs.Prelude.{◌≡◌, ◌<◌, ◌^◌, ℕ, map, IfOk};
 ghost use Rattle.tensor_views.specs.Places.{places_of, AreBelow};
@@ -10,29 +11,35 @@ use crate::places::Places;
 use crate::run_places::places_in_run;
 use std::alloc::{AllocError, Global};
 
-/// The places that axes reach from a start.
+/// A view that owns its axes: a start, and axes with a size, a step and a direction each.
 #[derive(Drop)]
 pub struct View {
+    /// The operand's place from which the steps of all axes count.
     pub start: usize,
+    /// The axes, the fastest first.
     pub axes: Vec<Axis>,
 }
 
-/// A view that is lent.
+/// A view that borrows its axes.
 #[derive(Clone, Copy, Drop)]
 pub struct ViewRef<'a> {
+    /// The operand's place from which the steps of all axes count.
     pub start: usize,
+    /// The axes, the fastest first.
     pub axes: &'a [Axis],
 }
 
 /// A list that is read along a view.
 #[derive(Clone, Copy, Drop)]
 pub struct Reading<'a> {
+    /// The values of the operand.
     pub list: &'a [i64],
+    /// The view that says which values are read.
     pub view: ViewRef<'a>,
 }
 
 impl View {
-    /// The same, lent.
+    /// Returns this view with borrowed axes.
     #[inline(always)]
     pub fn as_ref(&self) -> ViewRef<'_>
         ensures start { result.start ≡ self.now.start }
@@ -46,7 +53,7 @@ impl View {
 }
 
 impl ViewRef<'_> {
-    /// The same in memory of its own.
+    /// Returns a copy that owns its axes.
     pub fn copied(self, alloc: Global) -> Result<View, AllocError>
         ensures start { IfOk result (λ v. v.start ≡ self.entry.start) }
         ensures axes { IfOk result (λ v. v.axes.items ≡ self.entry.axes.now) }
@@ -59,7 +66,7 @@ impl ViewRef<'_> {
         })
     }
 
-    /// How many places it has.
+    /// Returns the number of places that the view reads.
     pub fn size(self) -> usize
         requires some { 0 < view_size self.axes.now }
         requires fits { view_size self.axes.now < 2 ^ 32 }
@@ -72,7 +79,7 @@ impl ViewRef<'_> {
         places
     }
 
-    /// The operand's place for one place.
+    /// Returns the operand's place for a place of the view, by one division for each axis.
     #[inline(always)]
     pub(crate) fn at(self, place: usize) -> usize
         requires within { place < view_size self.axes.now }
@@ -88,7 +95,7 @@ impl ViewRef<'_> {
         self.start + reached
     }
 
-    /// The operand's places for places of the result.
+    /// Returns the operand's place for each of some places of the view.
     pub fn places(self, alloc: Global, places: &Places<'_>) -> Result<Vec<u32>, AllocError>
         requires within { AreBelow places.now (view_size self.axes.now) }
         requires fits { (p : ℕ) → p < view_size self.axes.now

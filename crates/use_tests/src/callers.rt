@@ -1,4 +1,4 @@
-//! Each caller of `uses` on a few values.
+//! Tests of each caller in `uses` on a few values.
 
 use event_word::{Event, Phase};
 use parallel_for::{ForFault, Setup};
@@ -30,7 +30,8 @@ fn each_queue_is_found(rt: HostRuntime) -> Result<(), Fail> {
     Ok(())
 }
 
-/// A worker is about to sleep while a job comes: whoever is first, it doesn't sleep on it.
+/// A job comes after a worker has looked at its row and before it sleeps. The worker does not fall
+/// asleep.
 #[test]
 fn a_job_that_comes_late(rt: HostRuntime) -> Result<(), Fail> {
     let events = [

@@ -1,4 +1,4 @@
-//! Tests of the callers of each crate.
+//! Tests of the callers in `uses`. A new caller gets a test in `callers.rt`.
 #![tactic(auto)]
 
 #[cfg(test)]

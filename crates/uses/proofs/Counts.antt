@@ -17,7 +17,7 @@ pub get_or-counts_of : (text : List ℕ) (byte : ℕ) → byte < 256
 get_or-counts_of text byte below =
     get_or-map-range_with_len (λ b. count_of b text) 0 256 byte byte 0 below (omega arith)
 
--- the counts of the first parts, added up, are those of the text up to where these end
+-- the counts of the first parts, added up, are the counts of the text up to the end of these parts
 pub sum_by-parts : (text : List ℕ) (part_length n byte : ℕ) → byte < 256
     → sum_by (λ counts. get_or counts byte 0)
     (map (λ i. counts_of (part_of text part_length i)) (range_with_len 0 n))

@@ -8,7 +8,7 @@ leaves_of-low zero low = refl
 leaves_of-low (suc zero) low = refl
 leaves_of-low (suc (suc n)) low = absurd (omega arith)
 
--- a high one has those of its kids
+-- a high tree has the leaves of its kids
 pub leaves_of-high : (height : ℕ) → 2 ≤ height
     → leaves_of height ≡ leaves_of (height - 1) + leaves_of (height - 2)
 leaves_of-high zero high = absurd (omega arith)

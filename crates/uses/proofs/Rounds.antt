@@ -27,7 +27,7 @@ pub record IsRound (lengths seen left : List ℕ) : Type 0 where
   pub once : VisitsEachOnce 0 (length lengths) (seen ++ left)
   pub empty : All (λ queue. get_or lengths queue 0 ≡ 0) seen
 
--- the next queue is one of them
+-- the next queue is one of the queues
 pub next-inside : (lengths seen left rest : List ℕ) (queue : ℕ) → left ≡ queue ∷ rest
     → IsRound lengths seen left → queue < length lengths
 next-inside lengths seen left rest queue is round =
@@ -39,7 +39,7 @@ next-inside lengths seen left rest queue is round =
     within [] h = All-head (λ row. (0 ≤ row) × (row < length lengths)) queue rest h
     within (x ∷ xs) h = within xs (All-tail (λ row. (0 ≤ row) × (row < length lengths)) x (xs ++ queue ∷ rest) h)
 
--- once none is left all are empty
+-- once no queue is left, all are empty
 pub all-empty : (lengths seen : List ℕ) → IsRound lengths seen [] → All (λ jobs. jobs ≡ 0) lengths
 all-empty lengths seen round =
     All-from_get_or (λ jobs. jobs ≡ 0) lengths 0 (λ queue inside.

@@ -23,7 +23,7 @@ sum-flat_map numbers_of (x ∷ xs) =
     let both = sum_by-append (λ n. n) (numbers_of x) (flat_map numbers_of xs) in
     omega arith
 
--- what is summed of mapped items
+-- the sum of mapped items
 pub sum_by-map : {X Y : Type 0} (f : Y → ℕ) (g : X → Y) (xs : List X)
     → sum_by f (map g xs) ≡ sum_by (λ x. f (g x)) xs
 sum_by-map f g [] = refl

@@ -1,8 +1,8 @@
--- What stands where no count is named.
+-- Default values for types in which no count is named.
 use Rattle.std.specs.Prelude.{[]}
 use Rattle.event_count.specs.Seated.{TableId}
 
--- a count that no number is of
+-- a count to which no number belongs
 abbrev pub no_count : TableId
 no_count = record {
   words = 0;

@@ -1,4 +1,4 @@
--- What tensor programs work out, as terms.
+-- What tensor programs compute, as terms.
 use Rattle.std.specs.Prelude.{[], ◌∷◌}
 use Rattle.tensor_ops.specs.Term.{Term, input, unary, binary, each, pairwise, reduce}
 use Rattle.tensor_ops.specs.UnaryScalar.TheVariants.{Square}

@@ -1,4 +1,5 @@
-//! A tensor program without JSON: how far each row of a matrix lies from that of another.
+//! A tensor program without JSON: the squared distance of each row of a matrix from the same row of
+//! another matrix. `tensor_ops/CALLING.md` quotes it.
 ghost use Rattle.std.specs.Prelude.{◌≡◌, Err, IfOk, IfErr, length};
 ghost use Rattle.tensor_ops.specs.Result.{dims_of};
 ghost use Rattle.tensor_ops.specs.Tree.{term_of};
@@ -8,7 +9,7 @@ ghost use Rattle.uses.specs.Programs.{squared_distances};
 use std::alloc::{AllocError, Global};
 use tensor_ops::{Expr, ExprFault, Inputs, Tensor, eval_plain};
 
-/// The squares of the differences, added up along axis 1.
+/// Returns the program: the squares of the differences of two inputs, added up along axis 1.
 fn program(alloc: Global) -> Result<Expr, AllocError>
     ensures { IfOk result (λ expr. term_of expr ≡ squared_distances) }
 {
@@ -19,7 +20,7 @@ fn program(alloc: Global) -> Result<Expr, AllocError>
     Ok(Expr::Sum(square, vec![in alloc; 1]?))
 }
 
-/// The square of each row's distance, or why the two inputs have none.
+/// Returns the squared distance of each row, or the fault of the two inputs.
 pub fn row_distances(
     alloc: Global,
     inputs: &Inputs,

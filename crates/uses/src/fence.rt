@@ -1,4 +1,5 @@
-//! A fence: one thread goes on once all others have done their part.
+//! A fence: one thread goes on once all others have done their part. `pool_barrier/CALLING.md`
+//! quotes it.
 ghost use Rattle.std.specs.Prelude.{◌≡◌, ◌<◌, ◌↔◌, All, IsErrOf};
 ghost use Rattle.pool_barrier.specs.Limits.{most_notices};
 ghost use Rattle.pool_barrier.specs.Shares.{notices_of, IsShareOf, IsWaiterOf};
@@ -9,7 +10,8 @@ use std::sync::Wait;
 use std::sync::atomic::{AtomicU64, Ordering};
 use std::thread::{self, Threads};
 
-/// How many of so many threads were there when the one that waits went on.
+/// Waits at a barrier for the given number of threads, and returns how many of them had arrived
+/// when the wait ended.
 pub fn arrived<RT: Threads + Wait + Sync>(
     rt: &RT,
     alloc: Global,

@@ -1,5 +1,6 @@
-//! A bounded hand-over: numbers go through a ring of few places from one thread to another, and
-//! who finds the ring full or empty sleeps until the other has moved it on.
+//! A bounded hand-over: numbers go through a ring of few places from one thread to another. A
+//! thread that finds the ring full or empty sleeps until the other has moved it on.
+//! `event_count/CALLING.md` quotes it.
 ghost use Rattle.std.specs.Prelude.{◌≡◌, ◌∷◌, ◌++◌, [], ◌<◌, ◌≤◌, IfOk};
 ghost use Rattle.std.specs.Prelude.{length, vec_len, vec_capacity};
 ghost use Rattle.std.specs.Arc.{arc_value};
@@ -13,7 +14,8 @@ use std::snapshot::Snapshot;
 use std::sync::{Arc, Wait};
 use std::thread::{self, Promise, Threads};
 
-/// How one side waits, at a count of its own, and how it wakes the other.
+/// One side of the ring: the count at which it waits, and the count by which it wakes the other
+/// side.
 #[derive(Drop)]
 struct Side {
     waits: Arc<EventCount>,
@@ -69,7 +71,7 @@ fn take<R: Wait>(rt: &R, side: &mut Side, consumer: &mut Consumer<u64>) -> u64
     unreachable!()
 }
 
-// The producer, once it has put in all numbers.
+// The promise of the putting thread: it returns the producer once all numbers were put in.
 #[derive(Drop)]
 struct PutAll<'a> {
     first: Snapshot<Producer<u64>>,
@@ -81,6 +83,7 @@ impl<'a> Promise<Producer<u64>> for PutAll<'a> {
         SameProducer all.first.value last × (sent last ≡ all.numbers.now) };
 }
 
+/// Puts in all numbers, and returns the producer.
 fn put_all<R: Wait>(
     rt: &R,
     mut side: Side,
@@ -97,6 +100,7 @@ fn put_all<R: Wait>(
     producer
 }
 
+/// Takes `count` numbers, and adds them to the list `got`, which has room for them.
 fn take_all<R: Wait>(
     rt: &R,
     mut side: Side,
@@ -115,7 +119,7 @@ fn take_all<R: Wait>(
     }
 }
 
-/// A count for one that waits and one that notifies.
+/// Makes a count for one waiter and one notifier, and returns it with their seats in this order.
 fn count_of_two(alloc: Global) -> Result<(Arc<EventCount>, Seat, Seat), CountFault>
     ensures ours { IfOk result (λ made.
         IsSeatOf (arc_value made.0) made.1 × IsSeatOf (arc_value made.0) made.2) }
@@ -133,7 +137,8 @@ fn count_of_two(alloc: Global) -> Result<(Arc<EventCount>, Seat, Seat), CountFau
     }
 }
 
-/// The numbers, as another thread has handed them over; at most so many are on their way.
+/// Returns the numbers after another thread has handed them over, one by one, through a ring of
+/// `places` places.
 pub fn handed_over<RT: Threads + Wait + Sync>(
     rt: &RT,
     alloc: Global,

@@ -1,4 +1,4 @@
-//! A parallel histogram: how often each byte stands in a text.
+//! A parallel histogram: how often each byte stands in a text. `parallel_for/CALLING.md` quotes it.
 ghost use Rattle.std.specs.Prelude.{◌≡◌, ◌+◌, ◌%◌, ◌^◌, ◌<◌, ℕ, IfOk, IsErrOf};
 ghost use Rattle.std.specs.Prelude.{length, slice_index, sum_by};
 ghost use Rattle.parallel_for.specs.Leaves.{blocks_of};
@@ -9,7 +9,7 @@ use std::alloc::{AllocError, Allocator, Global};
 use std::sync::Wait;
 use std::thread::Threads;
 
-/// Has the counts of a part of the text at the part's number.
+/// A kernel whose item at place i has the byte counts of part i of the text.
 #[derive(Drop)]
 struct Parts<'a> {
     text: &'a [u8],
@@ -42,7 +42,7 @@ impl<'a> Kernel for Parts<'a> {
     }
 }
 
-/// Part i of the text.
+/// Returns part i of the text.
 fn part_at(text: &[u8], part_length: u64, i: u64) -> &[u8]
     requires some { 0 < part_length }
     requires inside { i < blocks_of (length text.now) part_length }
@@ -52,7 +52,7 @@ fn part_at(text: &[u8], part_length: u64, i: u64) -> &[u8]
     &rest[..rest.len().min(part_length as usize)]
 }
 
-/// How often each byte stands in the text.
+/// Counts how often each byte stands in the text.
 fn counted(text: &[u8]) -> [u64; 256]
     ensures { result ≡ counts_of text.now }
 {
@@ -63,7 +63,7 @@ fn counted(text: &[u8]) -> [u64; 256]
     counts
 }
 
-/// Adds counts to others, modulo 2^64.
+/// Adds counts to the totals, modulo 2^64.
 fn add(total: &mut [u64; 256], counts: &[u64; 256])
     ensures all { length total.new ≡ 256 }
     ensures sums { (b : ℕ) → b < 256 → slice_index total.new b
@@ -74,7 +74,7 @@ fn add(total: &mut [u64; 256], counts: &[u64; 256])
     }
 }
 
-/// The counts of all parts together, modulo 2^64.
+/// Adds up the counts of all parts, modulo 2^64.
 fn added(parts: &[[u64; 256]]) -> [u64; 256]
     ensures all { length result ≡ 256 }
     ensures sums { (b : ℕ) → b < 256 → slice_index result b
@@ -87,8 +87,8 @@ fn added(parts: &[[u64; 256]]) -> [u64; 256]
     total
 }
 
-/// How often each byte stands in the text, of which each part of so many bytes is counted on some
-/// worker. Parts of no length are `BadBlock`.
+/// Counts how often each byte stands in the text. The text is cut into parts of `part_length`
+/// bytes, and each part is counted on some worker. The fault is `BadBlock` if `part_length` is 0.
 pub fn histogram<RT: Threads + Wait + Sync>(
     rt: &RT,
     alloc: Global,

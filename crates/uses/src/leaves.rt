@@ -1,4 +1,5 @@
-//! Fork and join: the leaves of a tree, counted by the workers of a pool.
+//! Fork and join: the leaves of a tree, counted by the workers of a pool. `worker_pool/CALLING.md`
+//! quotes it.
 ghost use Rattle.std.specs.Prelude.{◌≡◌, ◌^◌, ◌%◌, ◌↔◌, IfOk, IsErrOf, sum};
 ghost use Rattle.worker_pool.specs.Setup.{IsNoPoolSize};
 ghost use Rattle.uses.specs.Trees.{leaves_of};
@@ -10,7 +11,7 @@ use std::sync::Wait;
 use std::thread::Threads;
 use worker_pool::{Job, NoGate, PoolFault, Progress, Setup, VecLists, with_root};
 
-/// A tree whose kids are one lower and two lower than it. Below height 2 it is a leaf.
+/// A tree. One of its kids is lower by one, the other by two. Below height 2 it is a leaf.
 #[derive(Debug, Drop)]
 struct Tree {
     height: u32,
@@ -48,7 +49,7 @@ impl Job<Global> for Tree {
     fn abandon(self, _ctx: &()) {}
 }
 
-/// The sum of the numbers.
+/// Adds up the numbers, modulo 2^64.
 fn added(numbers: &[u64]) -> u64
     ensures { result ≡ sum numbers.now % 2 ^ 64 }
 {
@@ -59,7 +60,7 @@ fn added(numbers: &[u64]) -> u64
     sum
 }
 
-/// How many leaves the tree of this height has.
+/// Counts the leaves of the tree of this height, modulo 2^64.
 pub fn count_leaves<RT: Threads + Wait + Sync>(
     rt: &RT,
     alloc: Global,

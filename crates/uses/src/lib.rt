@@ -1,4 +1,5 @@
-//! One caller of each crate of the kit, whole: the pages `CALLING.md` of those crates quote them.
+//! Complete callers of the crates that can be used alone, one or two for each. The pages
+//! `CALLING.md` of those crates quote them, and `use_tests` runs them.
 #![tactic(auto)]
 
 pub mod distances;

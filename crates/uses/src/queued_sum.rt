@@ -1,5 +1,6 @@
-//! A sum of numbers that one thread puts into a queue and others take out. Who finds it empty sleeps
-//! at a count with a row until a number comes, or the end.
+//! A sum of numbers that one thread puts into a queue and others take out. A thread that finds the
+//! queue empty sleeps at a count with a row until a number comes or the count is stopped.
+//! `event_count/CALLING.md` quotes it.
 ghost use Rattle.std.specs.Prelude.{◌≡◌, ◌+◌, ◌%◌, ◌^◌, ◌<◌, ◌≤◌, All, IfOk, MatchBool};
 ghost use Rattle.std.specs.Prelude.{vec_len, sum, sum_by};
 ghost use Rattle.event_count.specs.Seats.{card_of, seat_id, IsIdle};
@@ -13,12 +14,13 @@ use std::sync::ledger::{Blank, Book, Ledger, Share};
 use std::sync::{Mutex, Wait};
 use std::thread::{self, Threads};
 
-/// How many numbers of each seat may lie in the queue. What comes past them its producer adds up.
+/// The credits that each seat begins with. A put costs the producer one credit, which goes to the
+/// seat that takes the number. A producer without credits adds up its numbers itself.
 const CREDITS: u32 = 64;
 
-/// What the types of one run name: the ledger of its numbers, and the count that its threads wait
-/// at. So what lies in the queue, of which nothing is known but its type, is known to be that
-/// count's.
+/// The ledger of a run's numbers and the count at which its threads wait, as a type. The types of
+/// the run name it. So a number in the queue is known to be of that count, though nothing but its
+/// type is known.
 trait Crew: Ledger {
     ghost use Rattle.event_count.specs.Seated.{TableId};
 
@@ -40,7 +42,8 @@ struct Job<C: Crew> {
     ghost ours: { ticket_id ticket ≡ C.count },
 }
 
-/// What lies behind the lock: the numbers, and as much of the ledger.
+/// The content of the lock: the numbers in the queue, and a share of the ledger that is worth their
+/// sum.
 #[derive(Drop)]
 struct Queue<C: Crew> {
     jobs: VecDeque<Job<C>>,
@@ -49,7 +52,7 @@ struct Queue<C: Crew> {
     ghost held: { worth.amount ≡ sum_by (λ job. job.number) jobs.items },
 }
 
-/// What all threads share.
+/// The count and the queue, which all threads share.
 #[derive(Drop)]
 struct Hub<C: Crew> {
     count: RowCount,
@@ -60,7 +63,7 @@ struct Hub<C: Crew> {
     ghost waiters: { (row_sizes_of count).waiters ≡ consumers },
 }
 
-/// A thread's seat, and the numbers that it has taken, added up. Between its calls it is free, and
+/// A thread's seat, and the sum of the numbers that it has taken. Between calls the seat runs and
 /// owes no notification.
 #[derive(Drop)]
 struct Member<C: Crew> {
@@ -74,7 +77,8 @@ struct Member<C: Crew> {
     ghost added: { total ≡ worth.amount % 2 ^ 64 },
 }
 
-/// Puts a number into the queue, and notifies a consumer. False: no credit or no memory is left.
+/// Puts a number into the queue, and notifies a consumer. Returns false if no credit is left or an
+/// allocation fails.
 fn put<C: Crew, R: Wait>(
     rt: &R,
     hub: &Hub<C>,
@@ -113,7 +117,8 @@ fn put<C: Crew, R: Wait>(
     true
 }
 
-/// Puts all numbers, and then stops the count.
+/// Puts all numbers into the queue, and then stops the count. The producer adds up the numbers that
+/// it could not put.
 fn produce<C: Crew, R: Wait>(
     rt: &R,
     hub: &Hub<C>,
@@ -140,7 +145,7 @@ fn produce<C: Crew, R: Wait>(
     (Member { seat, total, worth }, book)
 }
 
-/// Takes a number out of the queue, if there is one.
+/// Takes a number out of the queue, and returns whether there was one.
 fn take<C: Crew, R: Wait>(rt: &R, hub: &Hub<C>, member: &mut Member<C>) -> bool
     ensures { (card_of member.new.seat).number ≡ (card_of member.old.seat).number }
 {
@@ -157,7 +162,7 @@ fn take<C: Crew, R: Wait>(rt: &R, hub: &Hub<C>, member: &mut Member<C>) -> bool
     true
 }
 
-/// Sleeps while there is no number: whether the count was stopped.
+/// Sleeps if the row is empty and the count is not stopped. Returns whether it was stopped.
 fn rest<C: Crew, R: Wait>(rt: &R, hub: &Hub<C>, member: &mut Member<C>) -> bool
     requires { (card_of member.old.seat).number < hub.now.consumers }
     ensures { (card_of member.new.seat).number ≡ (card_of member.old.seat).number }
@@ -180,7 +185,7 @@ fn rest<C: Crew, R: Wait>(rt: &R, hub: &Hub<C>, member: &mut Member<C>) -> bool
     }
 }
 
-/// Takes numbers until the count is stopped and none is left.
+/// Takes numbers until the count is stopped and no number is left.
 fn consume<C: Crew, R: Wait>(rt: &R, hub: &Hub<C>, member: &mut Member<C>)
     requires { (card_of member.old.seat).number < hub.now.consumers }
 {
@@ -195,7 +200,7 @@ fn consume<C: Crew, R: Wait>(rt: &R, hub: &Hub<C>, member: &mut Member<C>)
     }
 }
 
-/// All consumers, each on a thread of its own.
+/// Runs all consumers, each on a thread of its own, and returns them.
 fn consume_all<C: Crew + Send + Sync, RT: Threads + Wait + Sync>(
     rt: &RT,
     hub: &Hub<C>,
@@ -217,7 +222,7 @@ fn consume_all<C: Crew + Send + Sync, RT: Threads + Wait + Sync>(
     members
 }
 
-/// Members with these seats, each with a part of the ledger.
+/// Returns a member for each of these seats, with a part of the ledger.
 fn members_of<C: Crew>(
     alloc: Global,
     seats: Vec<Seat>,
@@ -243,7 +248,7 @@ fn members_of<C: Crew>(
     Ok(members)
 }
 
-/// The sum of what all members have taken, and of what is left in the queue.
+/// Adds up what all members have taken and what is left in the queue, modulo 2^64.
 fn total_of<C: Crew>(mut book: Book<C>, queue: Queue<C>, members: Vec<Member<C>>) -> u64
     requires { C.parts ≡ vec_len members + 1 }
     ensures { result ≡ book.total % 2 ^ 64 }
@@ -264,7 +269,7 @@ fn total_of<C: Crew>(mut book: Book<C>, queue: Queue<C>, members: Vec<Member<C>>
     total
 }
 
-/// The sum of the numbers, over a queue and a count that the types name.
+/// Adds up the numbers by a queue and a count that the types name.
 fn summed<C: Crew + Send + Sync, RT: Threads + Wait + Sync>(
     rt: &RT,
     alloc: Global,
@@ -312,8 +317,8 @@ fn summed<C: Crew + Send + Sync, RT: Threads + Wait + Sync>(
     Ok(total_of(book, queue.into_inner(), members))
 }
 
-/// The sum of the numbers, modulo 2^64: the calling thread puts them into a queue, and so many
-/// others take them out and add them up.
+/// Adds up the numbers, modulo 2^64. The calling thread puts them into a queue, and the given
+/// number of consumers take them out and add them up.
 pub fn queued_sum<RT: Threads + Wait + Sync>(
     rt: &RT,
     alloc: Global,

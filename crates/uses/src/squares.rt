@@ -1,4 +1,4 @@
-//! A parallel map: the square of each number of a list.
+//! A parallel map: the square of each number of a list. `parallel_for/CALLING.md` quotes it.
 ghost use Rattle.std.specs.Prelude.{◌≡◌, ◌*◌, IfOk, length, map};
 
 use parallel_for::{ForFault, Kernel, Setup, parallel_for};
@@ -6,7 +6,7 @@ use std::alloc::{AllocError, Allocator, Global};
 use std::sync::Wait;
 use std::thread::Threads;
 
-/// Has the square of a number at the number's place.
+/// A kernel whose item at a place is the square of the number there.
 #[derive(Drop)]
 struct Squares<'a> {
     numbers: &'a [u32],
@@ -37,7 +37,8 @@ impl<'a> Kernel for Squares<'a> {
     }
 }
 
-/// The squares of the numbers, by so many workers, which take so many places at a time.
+/// Returns the squares of the numbers, in order. The workers of the setup compute them, `block`
+/// numbers at a time.
 pub fn squares_of<RT: Threads + Wait + Sync>(
     rt: &RT,
     alloc: Global,

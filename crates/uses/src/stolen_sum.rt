@@ -1,4 +1,5 @@
-//! A sum of numbers that threads steal from the one that has them.
+//! A sum of numbers that threads steal from the thread that has them. `run_queue/CALLING.md` quotes
+//! it.
 ghost use Rattle.std.specs.Prelude.{◌≡◌, ◌+◌, ◌%◌, ◌^◌, ◌<◌, [], ◌++◌, IfOk, All};
 ghost use Rattle.std.specs.Prelude.{length, map, sum, sum_by, option_to_list};
 ghost use Rattle.std.specs.List.{range_with_len};
@@ -11,7 +12,7 @@ use std::alloc::{AllocError, Global};
 use std::sync::Wait;
 use std::thread::{self, Threads};
 
-/// A seat, and what came out through it, added up.
+/// A seat, and the sum of the numbers that came out through it.
 #[derive(Drop)]
 struct Taken {
     seat: SlotSeat<u64>,
@@ -19,7 +20,7 @@ struct Taken {
     ghost added: { total ≡ sum (takes_of seat) % 2 ^ 64 },
 }
 
-/// The sum of the numbers.
+/// Adds up the numbers, modulo 2^64.
 fn added(numbers: &[u64]) -> u64
     ensures { result ≡ sum numbers.now % 2 ^ 64 }
 {
@@ -30,7 +31,8 @@ fn added(numbers: &[u64]) -> u64
     total
 }
 
-/// Puts the numbers in. The sum of those for which there is no room.
+/// Puts the numbers into the owner's row. Returns the sum of the numbers for which there was no
+/// room.
 fn put_in(rows: &SlotRows<u64>, owner: &mut SlotSeat<u64>, numbers: &[u64]) -> u64
     requires of { table_of owner.old ≡ rows_id rows.now }
     requires owner { number_in owner.old < row_count_of rows.now }
@@ -48,7 +50,8 @@ fn put_in(rows: &SlotRows<u64>, owner: &mut SlotSeat<u64>, numbers: &[u64]) -> u
     rest
 }
 
-/// The same by the first of the seats, which owns the row. Its seat is the last then.
+/// Puts the numbers in by the first of the seats, which owns the row, and moves this seat to the
+/// end of the list. Returns the sum of the numbers for which there was no room.
 fn put_in_by_owner(rows: &SlotRows<u64>, seats: &mut Vec<SlotSeat<u64>>, numbers: &[u64]) -> u64
     requires row { row_count_of rows.now ≡ 1 }
     requires of { All (λ s. table_of s ≡ rows_id rows.now) seats.old.items }
@@ -68,7 +71,7 @@ fn put_in_by_owner(rows: &SlotRows<u64>, seats: &mut Vec<SlotSeat<u64>>, numbers
     rest
 }
 
-/// The next number, which the owner takes at the front and others at the back.
+/// Takes a number, if there is one: the owner at the front of the row, others at its back.
 fn take<R: Wait>(rt: &R, rows: &SlotRows<u64>, seat: &mut SlotSeat<u64>) -> Option<u64>
     requires of { table_of seat.old ≡ rows_id rows.now }
     requires row { row_count_of rows.now ≡ 1 }
@@ -83,7 +86,7 @@ fn take<R: Wait>(rt: &R, rows: &SlotRows<u64>, seat: &mut SlotSeat<u64>) -> Opti
     }
 }
 
-/// Takes numbers until none is found.
+/// Takes numbers until none is found, and returns the seat with their sum.
 fn take_all<R: Wait>(rt: &R, rows: &SlotRows<u64>, mut seat: SlotSeat<u64>) -> Taken
     requires of { table_of seat ≡ rows_id rows.now }
     requires row { row_count_of rows.now ≡ 1 }
@@ -101,7 +104,7 @@ fn take_all<R: Wait>(rt: &R, rows: &SlotRows<u64>, mut seat: SlotSeat<u64>) -> T
     unreachable!()
 }
 
-/// All seats take numbers, each on a thread of its own.
+/// Takes the numbers out by all seats, each on a thread of its own.
 fn take_out<RT: Threads + Wait + Sync>(
     rt: &RT,
     rows: &SlotRows<u64>,
@@ -130,7 +133,7 @@ fn take_out<RT: Threads + Wait + Sync>(
     Ok(taken)
 }
 
-/// What came out through all seats, added up.
+/// Adds up what came out through all seats, modulo 2^64.
 fn total_of(taken: &[Taken]) -> u64
     ensures { result ≡ sum_by (λ t. sum (takes_of t.seat)) taken.now % 2 ^ 64 }
 {
@@ -141,6 +144,7 @@ fn total_of(taken: &[Taken]) -> u64
     total
 }
 
+/// Returns the seats alone.
 fn seats_of(alloc: Global, taken: Vec<Taken>) -> Result<Vec<SlotSeat<u64>>, AllocError>
     ensures { IfOk result (λ seats. seats.items ≡ map (λ t. t.seat) taken.items) }
 {
@@ -151,7 +155,7 @@ fn seats_of(alloc: Global, taken: Vec<Taken>) -> Result<Vec<SlotSeat<u64>>, Allo
     Ok(seats)
 }
 
-/// The sum of the numbers, modulo 2^64, added up by the calling thread and so many thieves.
+/// Adds up the numbers, modulo 2^64, by the owner of a row and the given number of thieves.
 pub fn stolen_sum<RT: Threads + Wait + Sync>(
     rt: &RT,
     alloc: Global,

@@ -1,9 +1,11 @@
-//! A dispatcher that looks for a queue with work, each time from another one on.
+//! A dispatcher that looks for a queue with work, each time from another queue on.
+//! `steal_walk/CALLING.md` quotes it.
 ghost use Rattle.std.specs.Prelude.{◌≡◌, ◌^◌, ◌<◌, All, IfSome, IfNone, length, slice_index};
 
 use steal_walk::{Coprimes, Walk};
 
-/// The first queue that isn't empty, on a walk once round all of them that the word picks.
+/// Returns the first queue that is not empty, or `None`. `word` picks the order of a walk that
+/// visits each queue once.
 pub fn first_waiting(lengths: &[u64], coprimes: &Coprimes, word: u32) -> Option<u32>
     requires some { 0 < length lengths.now }
     requires few { length lengths.now < 2 ^ 32 }

@@ -1,4 +1,5 @@
-//! A schedule of a pool's threads, written down as events and tried without any thread.
+//! A schedule of a pool's threads, written as a list of events and tried without starting a thread.
+//! `event_word/CALLING.md` quotes it.
 ghost use Rattle.std.specs.Prelude.{◌≡◌, ◌≤◌, ℕ, IfOk};
 ghost use Rattle.event_word.specs.Limits.{most_workers};
 ghost use Rattle.event_word.specs.Play.{Plays};
@@ -8,8 +9,8 @@ ghost use Rattle.event_word.specs.World.{opening_world};
 use event_word::{Event, World, plays_are_runs, runs_stay_awake};
 use std::alloc::{AllocError, Global};
 
-/// The World that the events lead to, with the impossible ones passed over. No schedule forgets a
-/// row with jobs while all workers sleep.
+/// Returns the World that the events lead to. Impossible events are skipped. In no such World is a
+/// row with jobs forgotten while all workers sleep.
 pub fn tried(
     alloc: Global,
     workers: u16,

@@ -1,4 +1,4 @@
--- What joins the rows' table and the count's.
+-- The laws that join the table of the rows and the table of the count.
 use Rattle.std.specs.Prelude.{◌≡◌, ℕ, ◌<◌, Bool, true, false, List, [], Option, Some, slice_index}
 use mathlib.Core.Option.{some}
 use lib.ListN.{get_elem?}
@@ -21,7 +21,7 @@ use Rattle.run_queue.specs.Positions.{row_with}
 use Rattle.waking_rows.specs.declared.ticketed.Ticketed.{Ticketed}
 use Rattle.waking_rows.specs.Tickets.{IsCounted}
 
--- the state of a table of rows
+-- a state of a table of rows
 abbrev pub SlotState : Type 0 → Type 0
 SlotState J = State (Option (Ticketed J)) (View (Ticketed J))
 
@@ -30,23 +30,23 @@ module _ {J : Type 0} where
   abbrev pub LiesAt : SlotState J → ℕ → Ticketed J → Type 0
   LiesAt slots element it = get_elem? slots.homes element ≡ some (some (Some it))
 
-  -- the two states are of one moment: a ticket of the count that lies in a slot is one of the views
-  -- of the count's table
+  -- the two states are of one moment: each ticket of the count that lies in a slot is one of the
+  -- views of the count's table
   abbrev pub AreAtOnce : TableId → SlotState J → CountState → Type 0
   AreAtOnce count slots s =
       (element : ℕ) (it : Ticketed J) → LiesAt slots element it → ticket_id it.ticket ≡ count
       → (id : ℕ) × (get_elem? s.views id ≡ some (ticket (row_of it.ticket)))
 
 module _ {J K : Type 0} where
-  -- each job that lies in a row has a ticket of the count beside it, and of that row
+  -- each job in a row has a ticket of the count and of that row beside it
   abbrev pub JobsAreCounted : (RowsKey K → TableId) → Rule (Ticketed J) K → Type 0
   JobsAreCounted count_of holds =
       (key : RowsKey K) (slots : SlotState J) → holds key slots
       → (element : ℕ) (it : Ticketed J) → LiesAt slots element it
       → IsCounted (count_of key) (row_with element) it
 
-  -- While the stop word is 0, each job that lies in a row has support by one of a set. It may be
-  -- any set that has a waiter, and outside of which the seats have done nothing.
+  -- While the stop word is 0, each job in a row has support by a member of a set. It may be any set
+  -- that has a waiter, if the seats outside it have done nothing.
   abbrev pub JobsAreNotSleptOn : (RowsKey K → TableId) → Rule (Ticketed J) K → Type 0
   JobsAreNotSleptOn count_of holds =
       (key : RowsKey K) (slots : SlotState J) → holds key slots

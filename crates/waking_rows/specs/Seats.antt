@@ -1,4 +1,4 @@
--- What contracts say of rows that wake, and of their seats.
+-- The parts of `WakingRows` and of their seats that contracts name.
 use Rattle.std.specs.Prelude.{◌≡◌, ◌≢◌, ℕ, ◌+◌, ◌*◌, ◌/◌, ◌<◌, ◌≤◌, ◌↔◌, List, Option, Some, None}
 use Rattle.std.specs.Prelude.{Result, MatchResult}
 use Rattle.std.specs.Arc.{arc_value}
@@ -17,97 +17,102 @@ use Rattle.waking_rows.specs.declared.waking_rows.WakingSeat.{WakingSeat}
 use Rattle.waking_rows.specs.Credits.{kept, GoesToBank, funds_of}
 use Rattle.waking_rows.specs.Tickets.{jobs_in}
 
--- with how many credits each seat begins of rows for so many workers: an even share of those that a
--- count may have, for all its seats, of which each worker has two, and who opens the rows has two
+-- the credits with which each seat begins, if `on_one_count` opens rows for this many workers: an
+-- equal share of the most credits of a count. Each worker has two seats of the count, and two seats
+-- are left.
 abbrev pub first_credits : ℕ → ℕ
 first_credits workers = row_limit / (2 * workers + 2)
 
 module _ {J : Type 0} where
-  -- which rows' seat it is, by their slots and by their count
+  -- the rows to which the seat belongs, by their slots and by their count
   abbrev pub home_of : WakingSeat J → TableId × TableId
   home_of seat = (table_of seat.slot, seat_id seat.seat)
 
+  -- the seat's number
   abbrev pub number_by : WakingSeat J → ℕ
   number_by seat = number_in seat.slot
 
-  -- the jobs that were put in and taken out through the seat
+  -- the jobs that were put in through the seat
   abbrev pub puts_by : WakingSeat J → List J
   puts_by seat = jobs_in (puts_of seat.slot)
 
+  -- the jobs that were taken out through the seat
   abbrev pub takes_by : WakingSeat J → List J
   takes_by seat = jobs_in (takes_of seat.slot)
 
-  -- how many more jobs it may put in by its own credits, before it takes one out
+  -- how many more jobs the seat may put in with its own credits, before it takes one out
   abbrev pub credits_by : WakingSeat J → ℕ
   credits_by seat = (card_of seat.seat).credits
 
-  -- what it has put into the bank of the count, and taken out
+  -- the seat's account with the bank of the count
   abbrev pub book_by : WakingSeat J → BankBook
   book_by seat = (card_of seat.seat).book
 
-  -- with how many credits a put went: those of the seat, or of the bank where it had none
+  -- how many credits a put had: the seat's own, or those it kept from the bank if it had none
   abbrev pub funds : WakingSeat J → WakingSeat J → ℕ
   funds before after = funds_of (credits_by before) (book_by before) (book_by after)
 
-  -- a put goes to the bank where the seat has no credit, and nowhere else
+  -- a put goes to the bank exactly if the seat has no credit
   abbrev pub IsPaid : WakingSeat J → WakingSeat J → Type 0
   IsPaid before after = GoesToBank (credits_by before) (book_by before) (book_by after)
 
-  -- the position of its next put at the front, and the element that it last claimed
+  -- the position of the seat's next put at the front
   abbrev pub front_by : WakingSeat J → ℕ
   front_by seat = front_of seat.slot
 
+  -- the element that the seat last claimed
   abbrev pub claimed_by : WakingSeat J → ℕ
   claimed_by seat = (claim_of seat.slot).element
 
-  -- it made one claim, and was refused exactly where it found another word than it wanted
+  -- the seat made one claim, and was refused exactly if the claim found another word than it wanted
   pub record Claims (wanted : ℕ) (IsRefused : Type 0) (before after : WakingSeat J) : Type 0 where
     pub once : ClaimedOnce before.slot after.slot wanted
     pub refused : IsRefused ↔ ((claim_of after.slot).found ≢ wanted)
 
-  -- a put is refused without a claim where the seat has no credit and its look at the bank found
-  -- none, and else exactly where its claim found its element not empty
+  -- a put: it is refused without a claim if the seat has no credit and found none in the bank;
+  -- otherwise it is refused exactly if its claim found its element not empty
   pub record IsPut (IsRefused : Type 0) (before after : WakingSeat J) : Type 0 where
     pub bank : IsPaid before after
     pub unpaid : funds before after ≡ 0 → IsRefused
     pub unclaimed : funds before after ≡ 0 → claims_of after.slot ≡ claims_of before.slot
     pub paid : 0 < funds before after → Claims empty_word IsRefused before after
 
-  -- it is of the same rows, and has the same number
+  -- the seat is of the same rows, and has the same number
   pub record IsSameSeat (before after : WakingSeat J) : Type 0 where
     pub home : home_of after ≡ home_of before
     pub number : number_by after ≡ number_by before
 
-  -- its seat at the count looked at the length of this row, which was answered, or the most jobs of
-  -- a row where it was more
+  -- the seat looked at the length of this row at the count; the answer is this length, but at most
+  -- the most jobs of a row
   abbrev pub LooksAtLength : WakingSeat J → WakingSeat J → ℕ → ℕ → Type 0
   LooksAtLength before after row answer = (length : ℕ)
       × (card_of after.seat ≡ measuring (card_of before.seat) row length)
       × (length ≤ most_jobs → answer ≡ length) × (most_jobs < length → answer ≡ most_jobs)
 
-  -- after a take the seat has the credit of its job, and its surplus is in the bank
+  -- the credits after a take: the seat has the job's credit, and its surplus is in the bank
   abbrev pub credits_after : Option J → ℕ → ℕ
   credits_after (Some job) credits = kept (credits + 1)
   credits_after None credits = credits
 
-  -- an accepted job takes a credit, and a refused one none
+  -- the credits after a put: an accepted job takes a credit, and a refused job takes none
   abbrev pub PaysIfOk : Result (Unit {0}) J → ℕ → ℕ → Type 0
   PaysIfOk result before after =
       MatchResult result (λ _. after + 1 ≡ before) (λ _. after ≡ before)
 
 module _ {J A : Type 0} where
-  -- which rows they are, by their slots and by their count
+  -- what distinguishes these rows from others, by their slots and by their count
   abbrev pub place_of : WakingRows J A → TableId × TableId
   place_of rows = (rows_id rows.slots, row_count_id (arc_value rows.count))
 
-  -- which count has their lengths
+  -- the count that has the rows' lengths
   abbrev pub count_in : WakingRows J A → TableId
   count_in rows = row_count_id (arc_value rows.count)
 
+  -- how many rows there are
   abbrev pub rows_in : WakingRows J A → ℕ
   rows_in rows = row_count_of rows.slots
 
-  -- how many seats were made with them
+  -- how many seats were made with the rows
   abbrev pub seats_in : WakingRows J A → ℕ
   seats_in rows = seat_count_of rows.slots
 

@@ -1,10 +1,10 @@
-//! Rows of jobs, and the point at which those wait who take them, over one count: a put wakes
-//! somebody, and nobody falls asleep while a row has a job.
+//! Rows of jobs, and the point at which threads wait for these jobs, over one count. A put notifies
+//! a waiter, and no thread falls asleep while a row has a job.
 //!
 //! # Use
 //!
-//! `on_one_count` opens both. Each thread has a seat of the rows, by which it puts and takes jobs,
-//! and one of the point, with which it waits:
+//! `on_one_count` opens both. Each thread has a seat of the rows, with which it puts and takes
+//! jobs, and a seat of the point, with which it waits:
 //!
 //!     rows.push_front(rt, &mut seat, job)       rows.pop_front(&mut seat)
 //!     rows.push_back(rt, &mut seat, row, job)   rows.pop_back(rt, &mut seat, row)
@@ -16,29 +16,31 @@
 //!
 //! | Table | Has |
 //! |---|---|
-//! | of the count | the state word, the waiters' words, the length of each row, the stop word, the bank |
+//! | of the count | the state word, waiters' words, the rows' lengths, the stop word, the bank |
 //! | of the slots | the phase of each element; in its slot a job beside the ticket that counts it |
 //!
-//! Both of a thread's seats are seats of the count too: one publishes, takes and notifies, the
-//! other waits, and stops the count.
+//! Both seats of a thread are seats of the count, too. The seat of the rows publishes, takes and
+//! notifies. The seat of the point waits, and stops the count.
 //!
-//! # What moves when
+//! # What the calls do
 //!
-//! ```text
-//! put     without a credit: all of the bank  over 1,024: all but 512 back into it
-//!         a credit for a ticket, length up   both into the slot   notify one
-//!         where the slot takes none          ticket for a credit, length down   notify one
-//! take    job and ticket out of the slot     ticket for a credit, length down
-//!         over 1,024 credits: all but 512 into the bank
-//! sleep   the flag, then each row            all 0: commit   else: cancel
-//! ```
+//! A put without a credit takes all credits out of the bank, and puts the surplus back. It turns a
+//! credit into a ticket, which raises the row's length, lays the job and the ticket into the slot,
+//! and notifies one waiter. If the slot is taken, it gives the ticket back, which lowers the
+//! length, and still notifies. A take gets the job and the ticket out of the slot, and gives the
+//! ticket back for a credit. If the seat then has more than 1,024 credits, it puts all but 512 into
+//! the bank. A sleep passes the flag and then each row. It commits if it passed all of them, and
+//! otherwise cancels. README.md has the picture.
 //!
 //! # Why no job is slept on
 //!
-//! The slots' rule says of each job that lies in a row that its ticket is the count's and of that
-//! row, so the row's length is above 0. The count's rule says of each such row that somebody is to
-//! notify, works, is about to look at it, or is being woken. No seat keeps a publish to itself: by
-//! its type it announces nothing between two calls.
+//! By the rule of the slots, each job in a row has a ticket of the count and of that row beside it.
+//! So the row's length is above 0. By the rule of the count, each such row has support: some seat
+//! is to notify, runs, is about to look at the row, or is being woken. No seat keeps a publish to
+//! itself: by its type it has nothing to notify between two calls.
+//!
+//! worker_pool opens its pools over this pair (`with_counted_root`). A change to the order of a
+//! put, or to what a sleep passes, is a change to the laws here and to event_count's.
 #![tactic(auto)]
 
 mod laws;

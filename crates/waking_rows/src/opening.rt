@@ -1,4 +1,5 @@
-//! How rows that wake are opened, and the point of those who wait for their jobs.
+//! How `WakingRows` and `RowPoint` are opened, over one count or apart. worker_pool's
+//! `with_counted_root` relies on the sizes and credits that `on_one_count` promises.
 ghost use Rattle.std.specs.Prelude.{◌≡◌, ℕ, ◌+◌, ◌/◌, ◌<◌, ◌≤◌, ◌↔◌, [], length, map, All, IfOk};
 ghost use Rattle.std.specs.Prelude.{IsErrOf, vec_len};
 ghost use Rattle.std.specs.Arc.{arc_value};
@@ -23,16 +24,20 @@ use std::alloc::{AllocError, Allocator};
 use std::snapshot::Snapshot;
 use std::sync::Arc;
 
-/// Rows that wake and the point of those who wait for their jobs, over one count, with their seats.
+/// `WakingRows` and a `RowPoint` over one count, with their seats.
 #[derive(Drop)]
 pub struct OnOneCount<J, A: Allocator> {
+    /// The rows.
     pub rows: WakingRows<J, A>,
+    /// The seats of the rows, by number.
     pub row_seats: Vec<WakingSeat<J>, A>,
+    /// The point at which threads wait for the rows' jobs.
     pub point: RowPoint<A>,
+    /// The seats of the point, by number.
     pub waiters: Vec<RowWaiter, A>,
 }
 
-/// As many credits for each of so many seats as a count may have.
+/// Returns an equal share of a count's credits for each of `seats` seats.
 fn credits_each(seats: u32) -> u32
     requires { 0 < seats }
     ensures { result ≡ row_limit / seats }
@@ -40,8 +45,9 @@ fn credits_each(seats: u32) -> u32
     (MOST_CREDITS / u64::from(seats)) as u32
 }
 
-/// A row and a waiter for each worker, and beside theirs one seat more at each, for one that only
-/// puts jobs in. The credits of the point's seats are in the bank.
+/// Opens rows and a point over one count, for a number of workers. Each worker has a row, a seat of
+/// the rows and a seat of the point. Each of the two has one more seat, for a thread that only puts
+/// jobs in. The credits of the point's seats are in the bank.
 pub fn on_one_count<J: Drop, A: Allocator + Clone>(
     alloc: &A,
     workers: u16,
@@ -104,7 +110,7 @@ pub fn on_one_count<J: Drop, A: Allocator + Clone>(
     })
 }
 
-/// Rows over a count of their own, at which nobody waits.
+/// Opens rows over a count of their own, at which nobody waits.
 pub(crate) fn rows_alone<J: Drop, A: Allocator + Clone>(
     alloc: A,
     rows: u16,
@@ -122,7 +128,7 @@ pub(crate) fn rows_alone<J: Drop, A: Allocator + Clone>(
     if rows > MOST_ROWS {
         return Err(RowsFault::TooManyRows);
     }
-    // A count has a row and a waiter at least.
+    // A count has at least one row and one waiter.
     let some = rows.max(1);
     let sizes = RowSizes {
         waiters: some,
@@ -141,7 +147,7 @@ pub(crate) fn rows_alone<J: Drop, A: Allocator + Clone>(
     Ok(rows_over(&alloc, count, seats, rows, outsiders)?)
 }
 
-/// Rows over a count, of which these are the rows' seats.
+/// Opens rows over a count, whose seats `seats` become the seats of the rows.
 fn rows_over<J: Drop, A: Allocator + Clone>(
     alloc: &A,
     count: Arc<RowCount<A>, A>,
@@ -189,7 +195,7 @@ fn rows_over<J: Drop, A: Allocator + Clone>(
     ))
 }
 
-/// A seat at the slots and one at the count, each two in one.
+/// Pairs each seat at the slots with a seat at the count.
 fn both<J: Drop, A: Allocator + Clone>(
     alloc: &A,
     slots: Vec<SlotSeat<Ticketed<J>>, A>,

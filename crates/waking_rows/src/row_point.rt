@@ -1,4 +1,5 @@
-//! The point at which those wait who take jobs from rows that wake.
+//! `RowPoint`: the point at which threads wait for the jobs of `WakingRows`. Its `sleep` makes the
+//! looks that keep jobs from being slept on; its clauses are in `specs/Points.antt`.
 ghost use Rattle.std.specs.Prelude.{◌≡◌, ◌<◌, [], map, All, IfOk};
 ghost use Rattle.std.specs.Arc.{arc_value};
 ghost use Rattle.event_word.specs.declared.phase.Phase.TheVariants.{Running, Pre};
@@ -17,25 +18,26 @@ use std::sync::{Arc, Wait};
 
 /// A count with rows, as a point at which a pool's workers wait.
 ///
-/// Who sleeps has passed the count's rows and its flag, so that no row with a job is slept on.
-/// Whoever puts a job into a row notifies one by itself, and so `wake_one` does nothing. To wake
-/// all is to stop the count: from then on nobody falls asleep.
+/// A seat that sleeps has passed the count's rows and its flag, so no row with a job is slept on. A
+/// put notifies by itself, so `wake_one` does nothing. `wake_all` stops the count: from then on
+/// nobody falls asleep.
 #[derive(Drop)]
 pub struct RowPoint<A: Allocator = Global> {
     pub(crate) count: Arc<RowCount<A>, A>,
-    /// How many seats have the point's numbers: the waiters, and those behind them.
+    /// How many seats the point has: the waiters, and the notifiers after them.
     pub(crate) seats: u32,
     ghost some: { 0 < seats },
 }
 
-/// A seat at such a point. Between its calls it owes nobody a notification.
+/// A seat at a `RowPoint`. Between its calls it has nothing to notify.
 #[derive(Drop)]
 pub struct RowWaiter {
     pub(crate) seat: Seat,
     ghost silent: { IsSilent seat },
 }
 
-/// Each seat as a waiter's. Its credits are in the bank of the count, since a waiter puts no job in.
+/// Makes each seat of the count a seat of the point. Puts its credits into the bank, since a waiter
+/// puts no job in.
 pub(crate) fn waiters_of<A: Allocator + Clone>(
     alloc: &A,
     count: &RowCount<A>,
@@ -80,7 +82,7 @@ impl<A: Allocator + Clone> WaitPoint<A> for RowPoint<A> {
 
     ghost owing_of = { λ waiter. (card_of waiter.seat).owing };
 
-    // The count's other seats may be in use yet.
+    // Other seats of the count may still be in use, so nothing is said of the last word.
     ghost is_last = { λ _. Unit {0} };
 
     fn open(

@@ -1,4 +1,5 @@
-//! Jobs that lie in rows, each beside the ticket that counts it.
+//! `Ticketed`: a job in a row, beside the ticket that counts it. The law `jobs_are_counted` is the
+//! fact that `OfCount` states.
 use event_count::{RowCount, Ticket};
 use run_queue::Contents;
 use std::alloc::Allocator;
@@ -12,8 +13,8 @@ pub struct Ticketed<J> {
     pub(crate) ticket: Ticket,
 }
 
-/// What is known of such jobs in rows: each ticket is the count's, and of the row that it lies in.
-/// The rows have no lengths: the count has them.
+/// What is known about ticketed jobs in rows: each ticket is the count's, and of the row in which
+/// the job lies. These rows have no length words, because the count has their lengths.
 pub struct OfCount<A> {
     of: PhantomData<A>,
 }

@@ -1,4 +1,5 @@
-//! Rows of slots that wake those who wait for their jobs.
+//! `WakingRows`: rows of slots whose puts notify a waiter. `calls.rt` has the calls, and
+//! `specs/Seats.antt` names the parts of rows and seats that contracts name.
 ghost use Rattle.std.specs.Prelude.{◌≡◌, ◌*◌, ◌<◌, ◌≤◌};
 ghost use Rattle.std.specs.Arc.{arc_value};
 ghost use Rattle.event_count.specs.Seats.{IsIdle};
@@ -17,10 +18,10 @@ mod calls;
 mod credits;
 mod ending;
 
-/// Rows of slots whose lengths a count has, beside those who wait at it.
+/// Rows of slots whose lengths are in a count, at which threads wait for the jobs.
 ///
-/// A put publishes its job at the count, lays it down with the ticket, and notifies one. A take
-/// gives the ticket back.
+/// A put publishes its job at the count, lays the job and its ticket into a slot, and notifies one
+/// waiter. A take gives the ticket back.
 #[derive(Drop)]
 pub struct WakingRows<J, A: Allocator = Global> {
     pub(crate) count: Arc<RowCount<A>, A>,
@@ -35,8 +36,8 @@ pub struct WakingRows<J, A: Allocator = Global> {
     ghost seat_room: { homes ≡ seat_count_of slots },
 }
 
-/// A seat at such rows: one at the slots, and one at the count. Between its calls it is free, and
-/// owes nobody a notification.
+/// A seat at `WakingRows`: a seat at the slots and a seat at the count. Between its calls it is
+/// idle, and has nothing to notify.
 #[derive(Drop)]
 pub struct WakingSeat<J> {
     pub(crate) slot: SlotSeat<Ticketed<J>>,

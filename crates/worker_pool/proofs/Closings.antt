@@ -1,4 +1,4 @@
--- How accounts add up to that of a closed pool.
+-- How accounts add up to the account of a closed pool.
 use Rattle.std.proofs.Common.{◌≡◌, ℕ, ◌+◌, List, [], ◌∷◌, ◌++◌, map, All, length}
 use Rattle.std.proofs.Common.{refl, sym, ap, ◌∙◌, arith, subst}
 use Rattle.std.specs.Prelude.{sum_by}
@@ -92,7 +92,7 @@ module _ {J O : Type 0} (keeps : Type 0) (law : JobLaw J O) where
         (sym (append-nil outs)) refl (omega arith);
   }
 
-  -- the same account, of jobs in another order
+  -- an account holds of the jobs in another order too
   account-reordered : (t u passed : List J) (outs : List O) (n : ℕ) → SameBag u t
       → Account keeps law t passed outs [] n → Account keeps law u passed outs [] n
   account-reordered t u passed outs n same account = record {
@@ -164,8 +164,9 @@ module _ {J O : Type 0} (keeps : Type 0) (law : JobLaw J O) where
         (ran.account came passed start);
   }
 
-  -- What was put in through all seats was taken out through them or is left. So where one account is
-  -- of what was taken, and the other of the roots and of what was left, nothing is passed on any more.
+  -- What was put in through all seats was taken out through them or is left. So if one account is
+  -- of the taken jobs, and the other is of the roots and of the jobs that were left, then nothing
+  -- is passed on any more.
   pub account-closed : {S : Type 0} (puts takes : S → List J) (roots drained : List J)
       (seats : List S) (seat : S) (all : List S) (k l m : List O) (t left : List J) (a b n : ℕ)
       → Account keeps law (flat_map takes seats) (flat_map puts seats) k [] a
@@ -206,7 +207,8 @@ module _ {J O : Type 0} (keeps : Type 0) (law : JobLaw J O) where
             omega arith;
       }
 
--- Nothing ran since: what was put in through all seats was taken out through the workers' or is left.
+-- Nothing ran since: what was put in through all seats was taken out through the workers' seats or
+-- is left.
 pub handed-back : {S J O : Type 0} (keeps : Type 0) (law : JobLaw J O) (puts takes : S → List J)
     (drained : List J) (seats : List S) (seat : S) (all : List S) (k l m : List O) (left : List J)
     (a b c n : ℕ) → Account keeps law (flat_map takes seats) (flat_map puts seats) k [] a
@@ -262,7 +264,7 @@ gathers-more row point law pool ctx state before after at_work adds home =
           (flat_map-snoc (λ list. list.items) _ _ _ adds.lists) refl adds.refused;
     }
 
--- nobody has come home yet
+-- no worker has come home yet
 pub gathers-none : {J A W R C O N T S : Type 0} (row : rows.Ghosts R J A S)
     (point : wait_point.Ghosts W A T) (law : job.Ghosts J A C O N) (queue : JobQueue W R) (ctx : C)
     (gathered : Gathered J A W R C O N T S) → IsEmpty gathered

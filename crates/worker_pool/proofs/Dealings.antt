@@ -41,7 +41,7 @@ module _ {X : Type 0} (number_of : X → ℕ) where
       let both = both-numbers n all x xs is numbers in
       cc
 
-  -- and those of the items behind it
+  -- and the numbers of the items behind it
   numbers-rest : (n : ℕ) (all : List X) (x : X) (xs : List X) → all ≡ x ∷ xs
       → map number_of all ≡ range_with_len n (length all)
       → map number_of xs ≡ range_with_len (n + 1) (length xs)

@@ -48,7 +48,7 @@ passed-snoc seen row count then before rows looked here is all =
     (λ other. passed-other seen row count other is_here) before all)
     is_here)
 
--- who has passed each row of a walk that goes over so many rows has passed so many
+-- a worker that has passed each row of a walk over all of n rows has passed n rows
 pub passed-walk : (seen : Seen) (count : ℕ) (walk : List ℕ) → VisitsEachOnce 0 count walk
     → All (λ row. has_passed seen row ≡ true) walk → HasPassedRows count seen
 passed-walk seen count walk visits all = λ row below.

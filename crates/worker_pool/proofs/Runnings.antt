@@ -66,7 +66,7 @@ module _ {J O : Type 0} where
   lawful-node law job kids None runs = runs
 
 module _ {J O : Type 0} (keeps : Type 0) (law : JobLaw J O) where
-  -- a job that found no memory, or was abandoned
+  -- a job that ran out of memory, or was abandoned
   pub ran-refused : (job : J) (p : List J) (k : List O) → Runs law job [] None
       → Ran keeps law job p p k k 1
   ran-refused job p k runs = record {

@@ -57,7 +57,7 @@ asks-all starts homes few asked = record {
   were_not = All-nil _;
 }
 
--- at most so many were joined as came home
+-- at most as many workers were joined as came home
 pub joined-few : {X : Type 0} (homes : List (Home X)) → joined_of homes ≤ length homes
 joined-few homes = count_by-le-length (λ at. was_joined at.start) homes
 
@@ -98,7 +98,7 @@ comes-snoc is_at_work has_ended workplace states state all homes home all_homes 
     (zip-snoc comes states homes state home before
     (record { returned = now; kept = kept })))
 
--- one more came home, of whom a thread was asked for
+-- one more worker came home, for which a thread was asked for
 pub comes-asked : {S X : Type 0} (is_at_work : S → X → Type 0) (has_ended : S → X → X → Type 0)
     (workplace : S) (states : List X) (state : X) (all : List X) (homes : List (Home X))
     (home : Home X) (all_homes : List (Home X)) → all ≡ states ++ state ∷ []

@@ -1,4 +1,4 @@
--- What the stop word tells.
+-- What the stop word says.
 use Rattle.std.proofs.Common.{◌≡◌, ◌↔◌, ℕ, Bool, true, false, IsTrue, arith, refl}
 use Rattle.std.proofs.lemmas.Bool.{false≢true}
 use Rattle.worker_pool.specs.Stops.{cancelled_word, last_word}

@@ -114,7 +114,7 @@ module _ {J O : Type 0} (keeps : Type 0) (law : JobLaw J O) where
         omega arith;
   }
 
-  -- the same account, where nothing more came in or was passed on
+  -- an account stays one if nothing more came in or was passed on
   pub account-same : (p r t u : List J) (k : List O) (left : List J) (n : ℕ)
       → Account keeps law t p k left n → (keeps → u ≡ t ++ []) → (keeps → r ≡ p)
       → Account keeps law u r k left n

@@ -1,4 +1,4 @@
--- What contracts say of callers.
+-- What contracts say about callers.
 use Rattle.std.specs.Prelude.{◌≡◌, ℕ, ◌≤◌, List, []}
 use Rattle.event_count.specs.declared.wait_point.WaitPoint as wait_point
 use Rattle.run_queue.specs.declared.rows.Rows as rows
@@ -17,11 +17,11 @@ module _ {J A W R L C O N T S K : Type 0} where
   abbrev pub roots_of : Caller J A W R L C O N T S K → List J
   roots_of caller = caller.stop_seat.me.0.jobs
 
-  -- how many workers its pool has started
+  -- how many workers the caller's pool has started
   abbrev pub started_of : Caller J A W R L C O N T S K → ℕ
   started_of caller = caller.seats.started
 
-  -- how many workers its pool was set up with
+  -- how many workers the caller's pool was set up with
   abbrev pub workers_of : Caller J A W R L C O N T S K → ℕ
   workers_of caller = caller.queue.now.workers
 
@@ -42,9 +42,9 @@ module _ {J A W R L C O N T S K : Type 0} where
 
   module _ (row : rows.Ghosts R J A S) (point : wait_point.Ghosts W A T)
       (law : job.Ghosts J A C O N) (list : lists.Ghosts L O A K) where
-    -- The caller's seats are its pool's, it has nothing left to tell those that wait, and it has the
-    -- account of the jobs that were scheduled: they came in, it passed some jobs on, and the others
-    -- ran.
+    -- The caller's seats belong to its pool, and the caller has woken the workers that it has to
+    -- wake. It has the account of the jobs that were scheduled: they came in, some jobs were passed
+    -- on, and the others ran.
     pub record IsCaller (caller : Caller J A W R L C O N T S K) : Type 0 where
       pub seats : IsOpener row point caller.queue.now caller.seats.row caller.seats.waker
       pub stop_seat : IsStopSeatOf caller.stop.now caller.stop_seat
@@ -57,13 +57,13 @@ module _ {J A W R L C O N T S K : Type 0} where
           (roots_of caller) (row.puts_of caller.seats.row) (list.items_of caller.outs) []
           caller.refused
 
-    -- a caller is still one, of the same pool
+    -- the caller is still a caller, of the same pool
     pub record StaysCaller (caller then : Caller J A W R L C O N T S K) : Type 0 where
       pub still : IsCaller then
       pub same : IsSamePool caller then
 
-  -- The pool is closing, and those that wait were told. What was scheduled is as before, and so is
-  -- what became of it.
+  -- The pool is closing, and the workers that wait were woken. The scheduled jobs are as before,
+  -- and so is what became of them.
   pub record Closes (row : rows.Ghosts R J A S) (point : wait_point.Ghosts W A T)
       (caller then : Caller J A W R L C O N T S K) : Type 0 where
     pub same : IsSamePool caller then

@@ -10,13 +10,13 @@ use Rattle.worker_pool.specs.Callers.{IsCancelled, roots_of, stop_of}
 use Rattle.worker_pool.specs.Laws.{JobLaw}
 use Rattle.worker_pool.specs.Stops.{open_word}
 
--- the outs of all lists
+-- the outs of all lists, one list after the other
 abbrev pub all_outs : {O A : Type 0} → Vec (Vec O A) A → List O
 all_outs lists = flat_map (λ list. list.items) lists.items
 
--- A pool that was cancelled ran nothing more as it was closed. Of the jobs that its workers and its
--- caller had put into the rows the workers had taken some, and the others are left. Outs and
--- refusals are the workers' and those that the caller had.
+-- A cancelled pool ran nothing as it was closed. The workers had taken some of the jobs that its
+-- workers and its caller had put into the rows, and the others are left. The outs and refusals are
+-- the workers' and the caller's.
 pub record IsHandedBack {J O : Type 0} (keeps : Type 0) (law : JobLaw J O) (callers_puts : List J)
     (callers_outs : List O) (callers_refused : ℕ) (outs : List O) (left : List J) (refused : ℕ)
     : Type 0 where
@@ -29,10 +29,11 @@ pub record IsHandedBack {J O : Type 0} (keeps : Type 0) (law : JobLaw J O) (call
   pub outs_are : outs ≡ workers_outs ++ callers_outs
   pub refused_are : refused ≡ counted (workers_refused + callers_refused)
 
--- The body was lent a caller through which nothing had been scheduled or stored, of a pool of so
--- many workers, at most so many of which were started. What is left accounts for the jobs that were
--- scheduled through it. No job is left unless it cancelled the pool, and then those are that nobody
--- had taken when all workers had ended.
+-- The body was lent a caller of a pool with `size` workers, at most `starts` of which were started.
+-- Nothing had been scheduled or stored through the caller. The outs, the jobs that are left and the
+-- refusals account for the jobs that were scheduled through it. A job is left only if the body
+-- cancelled the pool. The jobs that are left are then the jobs that no worker had taken when all
+-- workers had ended.
 pub record HasClosed {J A W R L C O N T S K : Type 0} (row : rows.Ghosts R J A S)
     (list : lists.Ghosts L O A K) (law : JobLaw J O) (size starts : ℕ)
     (before after : Caller J A W R L C O N T S K) (outs : List O) (left : List J) (refused : ℕ)

@@ -3,9 +3,9 @@ use Rattle.std.specs.Prelude.{ℕ, List, [], ◌∷◌, Option, Some, None}
 use Rattle.worker_pool.specs.declared.job.Progress.TheVariants as progress
 use Rattle.worker_pool.specs.Laws.{JobLaw}
 
--- The steps from the job on, each on the rest of the one before, fork these kids in this order.
--- They end in the out; or in none, where a step found no memory, or there was none to begin one with
--- and what was left of the job was abandoned.
+-- The steps from the job on, each on the rest of the step before, fork these kids in this order.
+-- They end in the out. They end without an out if a step ran out of memory, or if an allocation
+-- before a step failed and the rest of the job was abandoned.
 pub data Runs {J O : Type 0} (law : JobLaw J O) : J → List J → Option O → Type 0 where
   ends : (job : J) (out : O) → law.steps job (progress.Done out) → Runs law job [] (Some out)
   lacks_memory : (job : J) → law.may_lack_memory job → Runs law job [] None
@@ -14,7 +14,7 @@ pub data Runs {J O : Type 0} (law : JobLaw J O) : J → List J → Option O → 
       → law.steps job (progress.Fork kid rest) → Runs law rest kids out
       → Runs law job (kid ∷ kids) out
 
--- a job that left its out, one that was refused memory or abandoned, and one that was never run
+-- a job that left its out, one that was refused for lack of memory, or one that was never run
 pub data Node (J O : Type 0) : Type 0 where
   Done : (job : J) (out : O) (kids : List J) → Node J O
   Refused : (job : J) (kids : List J) → Node J O
@@ -38,17 +38,17 @@ module _ {J O : Type 0} where
   outs_of (Done job out kids) = out ∷ []
   outs_of node = []
 
-  -- the job, where it was never run
+  -- the job, if it was never run
   abbrev pub left_of : Node J O → List J
   left_of (Left job) = job ∷ []
   left_of node = []
 
-  -- 1 where the job was refused
+  -- 1 if the job was refused, otherwise 0
   abbrev pub refusals_of : Node J O → ℕ
   refusals_of (Refused job kids) = 1
   refusals_of node = 0
 
-  -- the job's run leads to what the node says
+  -- a run of the job that the law allows leads to what the node says
   abbrev pub IsLawful : JobLaw J O → Node J O → Type 0
   IsLawful law (Done job out kids) = Runs law job kids (Some out)
   IsLawful law (Refused job kids) = Runs law job kids None

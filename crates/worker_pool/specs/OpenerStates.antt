@@ -1,4 +1,4 @@
--- What the thread that opened a pool works with, and what it has done.
+-- What the opener of a pool works with, and what it has done.
 use Rattle.std.specs.Prelude.{◌≡◌, ◌↔◌, ℕ, List, [], IsTrue}
 use Rattle.event_count.specs.declared.wait_point.WaitPoint as wait_point
 use Rattle.run_queue.specs.declared.rows.Rows as rows
@@ -14,7 +14,7 @@ use Rattle.worker_pool.specs.Laws.{law_of}
 use Rattle.worker_pool.specs.Stops.{IsStopSeatOf, jobs_of, stored_of, open_word, closing_word}
 use Rattle.worker_pool.specs.Told.{IsSilent}
 
--- its row's seat, its outs and its refusals are the caller's
+-- the opener's row seat, outs and refusals are the caller's
 pub record TakesOver {J A W R L C O N T S K : Type 0} (caller : Caller J A W R L C O N T S K)
     (opener : OpenerState J A W R L C O N T S K) : Type 0 where
   pub row : opener.seats.row ≡ caller.seats.row
@@ -23,7 +23,7 @@ pub record TakesOver {J A W R L C O N T S K : Type 0} (caller : Caller J A W R L
 
 module _ {J A W R L C O N T S K : Type 0} (row : rows.Ghosts R J A S)
     (point : wait_point.Ghosts W A T) where
-  -- the seats are the pool's, and nothing was done yet
+  -- the opener's seats belong to the pool, and nothing was done yet
   pub record IsFresh (list : lists.Ghosts L O A K) (pool : Pool J A W R)
       (opener : OpenerState J A W R L C O N T S K) : Type 0 where
     pub seats : IsOpener row point pool.queue opener.seats.row opener.seats.waker
@@ -36,8 +36,8 @@ module _ {J A W R L C O N T S K : Type 0} (row : rows.Ghosts R J A S)
     pub no_outs : list.items_of opener.outs ≡ []
     pub none_refused : opener.refused ≡ 0
 
-  -- These jobs came in: some were passed on, and the others ran. The pool is closing, and those that
-  -- wait were told.
+  -- These jobs came in: some were passed on, and the others ran. The pool is closing, and the
+  -- workers that wait were woken.
   pub record HasWorked (law : job.Ghosts J A C O N) (list : lists.Ghosts L O A K)
       (pool : Pool J A W R) (ctx : C) (roots : List J)
       (opener : OpenerState J A W R L C O N T S K) : Type 0 where
@@ -49,8 +49,9 @@ module _ {J A W R L C O N T S K : Type 0} (row : rows.Ghosts R J A S)
     pub account : Account row.keeps_accounts (law_of law ctx) roots
         (row.puts_of opener.seats.row) (list.items_of opener.outs) [] opener.refused
 
-  -- It was lent as a caller that was told of so many workers, and came back as another: the jobs
-  -- that were scheduled meanwhile came in, and it knows whether the pool was cancelled.
+  -- The opener was lent to the body as a caller of a pool with `count` started workers, and came
+  -- back. The jobs that were scheduled meanwhile came in, and the opener knows whether the pool was
+  -- cancelled.
   pub record IsLent (law : job.Ghosts J A C O N) (list : lists.Ghosts L O A K) (pool : Pool J A W R)
       (ctx : C) (count : ℕ) (before after : Caller J A W R L C O N T S K)
       (opener : OpenerState J A W R L C O N T S K) : Type 0 where

@@ -23,7 +23,7 @@ use Rattle.worker_pool.specs.Works.{IsAtWork}
 abbrev pub seeded_by : ℕ → Lcg
 seeded_by number = pcg32_of_seed (pcg32_seed 16 number)
 
--- seats of these rows, numbered one after the other, through which no job went
+-- seats of these rows with consecutive numbers, through which no job went
 pub record AreRowSeats {R J A S : Type 0} (row : rows.Ghosts R J A S) (at : R) (first : ℕ)
     (seats : List S) : Type 0 where
   pub ours : All (λ seat. row.rows_of seat ≡ row.identity_of at) seats
@@ -31,7 +31,7 @@ pub record AreRowSeats {R J A S : Type 0} (row : rows.Ghosts R J A S) (at : R) (
   pub untouched : row.keeps_accounts
       → All (λ seat. (row.puts_of seat ≡ []) × (row.takes_of seat ≡ [])) seats
 
--- idle seats of this point, numbered one after the other
+-- idle seats of this point with consecutive numbers
 pub record AreWakers {W A T : Type 0} (point : wait_point.Ghosts W A T) (at : W) (first : ℕ)
     (seats : List T) : Type 0 where
   pub idle : All (IsIdle point at) seats
@@ -39,8 +39,8 @@ pub record AreWakers {W A T : Type 0} (point : wait_point.Ghosts W A T) (at : W)
 
 module _ {J A W R C O N T S : Type 0} (row : rows.Ghosts R J A S) (point : wait_point.Ghosts W A T)
     (ranges : List RowRange) where
-  -- The worker's seats have its number, which also seeds its random words, and it looks first where
-  -- a worker of this number does.
+  -- The worker's seats have its number, which also seeds its random words. Its home rows are those
+  -- that the setup gives to this number.
   pub record IsByNumber (count : ℕ) (state : WorkerState J A W R C O N T S) : Type 0 where
     pub row_number : row.number_of state.seats.row ≡ state.number
     pub waker_number : point.number_of state.seats.waker ≡ state.number
@@ -48,8 +48,8 @@ module _ {J A W R C O N T S : Type 0} (row : rows.Ghosts R J A S) (point : wait_
     pub no_home : IsNone state.home ↔ (home_of count ranges state.number ≡ whole count)
     pub home : IfSome state.home (λ n. n.rows ≡ home_of count ranges state.number)
 
-  -- A pool of so many workers in which nothing was done: each worker has a state, by number,
-  -- and room for all that comes home.
+  -- A pool of `count` workers in which nothing was done. Each worker has a state, by number, and
+  -- there is room for all that comes home.
   pub record IsOpened {L K : Type 0} (law : job.Ghosts J A C O N) (list : lists.Ghosts L O A K)
       (count : ℕ) (opened : Opened J A W R L C O N T S K) : Type 0 where
     pub workers : opened.pool.queue.workers ≡ count

@@ -1,4 +1,4 @@
--- What the seats of a pool's threads are, while they work.
+-- What the seats of a pool's threads are while the threads work.
 use Rattle.std.specs.Prelude.{◌≡◌, ◌+◌, ◌<◌, ◌≤◌, []}
 use Rattle.event_word.specs.declared.phase.Phase.TheVariants.{Running, Pre}
 use Rattle.event_count.specs.declared.wait_point.WaitPoint as wait_point
@@ -7,13 +7,13 @@ use Rattle.run_queue.specs.Limits.{most_rows}
 use Rattle.worker_pool.specs.declared.working.job_queue.JobQueue.{JobQueue}
 
 module _ {W A T : Type 0} (point : wait_point.Ghosts W A T) where
-  -- a seat of this point, that runs and owes nobody a wake
+  -- a seat of this point whose thread is running and owes no waiter a wake
   pub record IsIdle (at : W) (seat : T) : Type 0 where
     pub ours : point.point_of seat ≡ point.identity_of at
     pub running : point.phase_of seat ≡ Running
     pub owes_none : point.owing_of seat ≡ []
 
-  -- one of this point's waiters, that runs and owes nobody a wake
+  -- the seat of one of this point's waiters, which is running and owes no waiter a wake
   pub record IsWaiter (at : W) (seat : T) : Type 0 where
     pub idle : IsIdle at seat
     pub waiter : point.number_of seat < point.waiter_count at
@@ -25,8 +25,8 @@ module _ {R J A S : Type 0} (row : rows.Ghosts R J A S) where
     pub owner : row.number_of seat < row.row_count at
 
 module _ {R J A S W T : Type 0} (row : rows.Ghosts R J A S) (point : wait_point.Ghosts W A T) where
-  -- There are rows and waiters for each worker of the setup, and beside theirs one seat more at each
-  -- for the opener.
+  -- There is a row and a waiter for each worker of the setup. The rows and the point have a seat
+  -- for each of these, and one more seat for the opener.
   pub record IsJobQueue (queue : JobQueue W R) : Type 0 where
     pub some : 0 < queue.workers
     pub few : queue.workers ≤ most_rows
@@ -47,7 +47,7 @@ module _ {R J A S W T : Type 0} (row : rows.Ghosts R J A S) (point : wait_point.
     pub owns : OwnsRow row queue.rows seat
     pub waits : IsWaiter point queue.point waker
 
-  -- the seats of a worker that has entered, and has neither slept nor left since
+  -- the seats of a worker that has entered the wait point, and has neither slept nor left since
   pub record HasEntered (queue : JobQueue W R) (seat : S) (waker : T) : Type 0 where
     pub sized : IsJobQueue queue
     pub owns : OwnsRow row queue.rows seat

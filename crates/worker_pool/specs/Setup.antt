@@ -26,6 +26,6 @@ AreNoPartitions workers ranges =
 abbrev pub whole : (workers : ℕ) → RowRange
 whole workers = record { start = 0; limit = workers }
 
--- where the worker of this number looks first: in its partition, or in all rows where it has none
+-- where the worker `number` looks first: in its partition, or in all rows if it has none
 abbrev pub home_of : (workers : ℕ) → List RowRange → (number : ℕ) → RowRange
 home_of workers ranges number = unwrap_or (slice_get ranges number) (whole workers)

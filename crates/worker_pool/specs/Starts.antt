@@ -1,4 +1,4 @@
--- What starting workers begins with, and what it ends with.
+-- What holds before workers are started, and after they have come home.
 use Rattle.std.specs.Prelude.{◌≡◌, ℕ, ◌+◌, ◌≤◌, ◌⊎◌, Bool, true, false, List, [], ◌++◌, length}
 use Rattle.std.specs.Prelude.{All, Vec, vec_len, vec_capacity, count_by, min}
 use Rattle.std.specs.List.{AllZip}
@@ -24,7 +24,7 @@ module _ {X : Type 0} where
   abbrev pub joined_of : List (Home X) → ℕ
   joined_of homes = count_by (λ home. was_joined home.start) homes
 
-  -- a thread was asked for of the workers with numbers below this, and of no other
+  -- a thread was asked for exactly for the workers with numbers below `starts`
   pub record AsksFirst (starts : ℕ) (homes : List (Home X)) : Type 0 where
     pub asked : List (Home X)
     pub others : List (Home X)
@@ -34,8 +34,8 @@ module _ {X : Type 0} where
     pub were_not : All (λ home. was_asked home.start ≡ false) others
 
 module _ {S X A B : Type 0} (is_at_work : S → X → Type 0) where
-  -- The workers are at work, nobody has come home and there is room for all, and what is done
-  -- meanwhile may begin with as many workers as can yet be started.
+  -- The workers are at work, no state has come home, and there is room for all states. The opening
+  -- may begin with any number of workers that can still be started.
   pub record IsToRun (may_begin : B → S → ℕ → Type 0) (workplace : S) (states : Vec X A)
       (ended : Vec (Home X) A) (started : ℕ) (opening : B) : Type 0 where
     pub at_work : All (is_at_work workplace) states.items
@@ -45,18 +45,19 @@ module _ {S X A B : Type 0} (is_at_work : S → X → Type 0) where
     pub begins : (count : ℕ) → count ≤ started + vec_len states → may_begin opening workplace count
 
 module _ {S X : Type 0} (is_at_work : S → X → Type 0) (has_ended : S → X → X → Type 0) where
-  -- a worker that was at work still is, and it has ended or did nothing
+  -- a worker that was at work is still at work, and has ended or did nothing
   pub record Returns (workplace : S) (before after : X) : Type 0 where
     pub at_work : is_at_work workplace after
     pub ended : has_ended workplace before after ⊎ (after ≡ before)
 
-  -- a worker's state came home: as it was, where no thread was asked for
+  -- a worker's state came home, and is unchanged if no thread was asked for
   pub record ComesHome (workplace : S) (before : X) (home : Home X) : Type 0 where
     pub returned : Returns workplace before home.state
     pub kept : home.start ≡ NotAsked → home.state ≡ before
 
-  -- All workers came home, by number, and a thread was asked for of each. What was done meanwhile
-  -- has ended: beside those that had been started, as many more were as were joined.
+  -- All workers came home, by number. For each of them a thread was asked for. The opening has
+  -- ended. The number of started workers that it saw is `started` plus the number of joined
+  -- threads.
   pub record HasRun {A B D : Type 0} (has_left : B → S → ℕ → D → Type 0) (workplace : S)
       (states : Vec X A) (ended : Vec (Home X) A) (started : ℕ) (opening : B)
       (result : Vec (Home X) A × D) : Type 0 where

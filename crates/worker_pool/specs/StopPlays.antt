@@ -1,10 +1,10 @@
--- What the steps on the stop word tell.
+-- What the steps on the stop word change in a seat's view.
 use Rattle.std.specs.Prelude.{◌≡◌, ℕ, List, [], ◌++◌}
 use Rattle.atomic_table.specs.Table.{Me, Step}
 use Rattle.worker_pool.specs.declared.working.stop.TheConstants.{STOP}
 use Rattle.worker_pool.specs.declared.working.stop_view.StopView.{StopView}
 
--- a seat's view, and the slots that it holds: none
+-- a seat's view, and the slots that the seat holds: none
 abbrev pub Sat : Type 0 → Type 0
 Sat J = Me (Unit {0}) (StopView J)
 
@@ -13,11 +13,11 @@ module _ {J : Type 0} where
   abbrev pub unused : StopView J
   unused = record { jobs = []; stored = 0; found = 0 }
 
-  -- the view once the seat has looked, and found this
+  -- the view once the seat has loaded the stop word, and found n
   abbrev pub after_look : StopView J → ℕ → StopView J
   after_look view n = record { jobs = view.jobs; stored = view.stored; found = n }
 
-  -- the view once the seat has stored this
+  -- the view once the seat has stored n
   abbrev pub after_store : StopView J → ℕ → StopView J
   after_store view n = record { jobs = view.jobs; stored = n; found = view.found }
 

@@ -1,4 +1,4 @@
--- What contracts say of the stop word and its seats.
+-- What contracts say about the stop word and its seats.
 use Rattle.std.specs.Prelude.{◌≡◌, ℕ, Bool, true, false, List}
 use Rattle.atomic_table.specs.declared.shared.Shared.{Shared}
 use Rattle.atomic_table.specs.declared.shared.Seat.{Seat}
@@ -14,12 +14,13 @@ open_word = 0
 abbrev pub cancelled_word : ℕ
 cancelled_word = 2
 
--- what is last stored in the stop word before a pool closes: nothing, or that it was cancelled
+-- what is stored last in the stop word before a pool closes: 0 if nothing was stored, 2 if the pool
+-- was cancelled
 abbrev pub last_word : (cancelled : Bool) → ℕ
 last_word false = 0
 last_word true = 2
 
--- what closing stores: that it was cancelled, where it was
+-- what closing stores: that the pool is closing, or that it was cancelled
 abbrev pub closing_word : (cancelled : Bool) → ℕ
 closing_word false = 1
 closing_word true = 2
@@ -33,11 +34,11 @@ module _ {J : Type 0} where
   abbrev pub stored_of : Seat (Unit {0}) (StopView J) → ℕ
   stored_of seat = seat.me.0.stored
 
-  -- what the seat's last look found in the stop word, or 0
+  -- what the seat's last load found in the stop word, or 0
   abbrev pub found_of : Seat (Unit {0}) (StopView J) → ℕ
   found_of seat = seat.me.0.found
 
-  -- the seat was made with the stop word's table
+  -- the seat belongs to the stop word's table
   pub record IsStopSeatOf (stop : Shared (Unit {0}) (StopView J) (Unit {0}) StopRule)
       (seat : Seat (Unit {0}) (StopView J)) : Type 0 where
     pub ours : seat.table_id ≡ stop.table_id

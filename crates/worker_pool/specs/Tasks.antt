@@ -4,7 +4,7 @@ use Rattle.worker_pool.specs.declared.boxed.TaskOut.{TaskOut}
 use Rattle.worker_pool.specs.declared.job.Progress.{Progress}
 use Rattle.worker_pool.specs.declared.job.Progress.TheVariants.{Fork, Done}
 
--- it is done, and left the tag and an answer that it may give
+-- the job is done, and left the tag and an answer that its task may give
 abbrev pub IsAnswered : {J : Type 0} → (tag : ℕ) → (may_answer : ℕ → Type 0)
     → Progress J TaskOut → Type 0
 IsAnswered tag may_answer (Fork kid rest) = ⊥

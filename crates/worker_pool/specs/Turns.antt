@@ -1,4 +1,4 @@
--- What the turns of a worker find.
+-- What a worker's turn finds.
 use Rattle.std.specs.Prelude.{List, [], ◌∷◌}
 use Rattle.worker_pool.specs.declared.working.worker.Turn.{Turn}
 use Rattle.worker_pool.specs.declared.working.worker.Turn.TheVariants.{Found, Again, Last}
@@ -9,7 +9,7 @@ jobs_in (Found job) = job ∷ []
 jobs_in Again = []
 jobs_in Last = []
 
--- this holds where the turn was the last
+-- the fact holds if the turn was the last
 abbrev pub IfLast : {J : Type 0} → Turn J → Type 0 → Type 0
 IfLast (Found job) fact = Unit {0}
 IfLast Again fact = Unit {0}

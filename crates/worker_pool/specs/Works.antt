@@ -12,15 +12,15 @@ use Rattle.worker_pool.specs.Laws.{law_of}
 use Rattle.worker_pool.specs.Seen.{MayEnd}
 use Rattle.worker_pool.specs.Stops.{IsStopSeatOf, stored_of, found_of, open_word}
 
--- the partition ends inside a pool of so many workers, where there is one
+-- the partition, if there is one, ends inside a pool of this many workers
 abbrev pub IsInside : {A : Type 0} → (workers : ℕ) → Option (HomeRows A) → Type 0
 IsInside workers home = IfSome home (λ n. n.rows.limit ≤ workers)
 
 module _ {J A W R C O N T S : Type 0} (row : rows.Ghosts R J A S) (point : wait_point.Ghosts W A T)
     (law : job.Ghosts J A C O N) where
-  -- The worker's seats are the pool's. It has woken somebody since it last put a job in, and stored
-  -- nothing in the stop word. It has the account of the jobs that it took: it put some jobs into its
-  -- row, and the others ran.
+  -- The worker's seats belong to the pool. The worker has woken another since it last put a job in,
+  -- and has stored nothing in the stop word. It has the account of the jobs that it took: some jobs
+  -- were put into its row, and the others ran.
   pub record IsAtWork (pool : Pool J A W R) (ctx : C) (state : WorkerState J A W R C O N T S)
       : Type 0 where
     pub seats : IsOwner row point pool.queue state.seats.row state.seats.waker
@@ -33,8 +33,8 @@ module _ {J A W R C O N T S : Type 0} (row : rows.Ghosts R J A S) (point : wait_
         (row.takes_of state.seats.row) (row.puts_of state.seats.row) state.outs.items []
         state.refused
 
--- The worker has ended, with its number. It had found that the pool was cancelled, or that it was
--- closing and since then that each row was empty.
+-- The worker has ended, and its number is unchanged. It had found the pool cancelled, or it had
+-- found the pool closing and since then each row empty.
 pub record HasEnded {J A W R C O N T S : Type 0} (row : rows.Ghosts R J A S) (pool : Pool J A W R)
     (before after : WorkerState J A W R C O N T S) : Type 0 where
   pub number : after.number ≡ before.number

@@ -1,11 +1,12 @@
-//! Tasks of any kind, as jobs.
+//! Tasks of any kind, as jobs of one step. Nothing else in the crate depends on this file;
+//! `pool_tests` and `memory_tests` run such tasks.
 ghost use Rattle.std.specs.Prelude.{◌≡◌, ℕ, IsOk, IfOk, IfErr};
 ghost use Rattle.worker_pool.specs.Steps.{ForksLighter};
 
 use crate::job::{Job, Progress};
 use std::alloc::{AllocError, Allocator};
 
-/// A task of any kind, which is run once.
+/// A task of any kind. A pool runs it at most once.
 pub trait BoxedTask: Drop {
     ghost use Rattle.std.specs.Prelude.{ℕ};
 
@@ -14,20 +15,21 @@ pub trait BoxedTask: Drop {
     // Which answers one run of the task may give.
     ghost may_answer: { Self → ℕ → Type 0 };
 
-    /// What tells the task from others, where its owner gave it a number of its own.
+    /// Returns the task's tag. It distinguishes tasks if their owner gave each a number of its own.
     fn tag(&self) -> u64
         ensures { result ≡ tag_of self.now };
 
+    /// Runs the task, and returns its answer.
     fn run(&mut self) -> u64
         ensures { may_answer self.old result };
 }
 
-/// What a task leaves.
+/// The out of a task that was run.
 #[derive(Clone, Copy, Debug, PartialEq, Eq)]
 pub struct TaskOut {
-    /// The task's, before it ran.
+    /// The task's tag, read before the task ran.
     pub tag: u64,
-    /// What its run gave.
+    /// The answer that the task's run returned.
     pub answer: u64,
 }
 
@@ -35,7 +37,7 @@ pub struct TaskOut {
 #[derive(Drop)]
 pub struct BoxedJob(pub Box<dyn BoxedTask + Send>);
 
-// Its one step is its last: the task is run once, as it was handed in.
+// The one step of the job is its last: the task is run once, as it was handed in.
 impl<A: Allocator> Job<A> for BoxedJob {
     ghost use Rattle.worker_pool.specs.Tasks.{IsAnswered};
 
@@ -43,7 +45,7 @@ impl<A: Allocator> Job<A> for BoxedJob {
 
     type Out = TaskOut;
 
-    /// The task as it was handed in.
+    /// The job itself, with its task as it was handed in.
     type Abandoned = BoxedJob;
 
     ghost weight_of = { λ _. 0 };
@@ -51,7 +53,7 @@ impl<A: Allocator> Job<A> for BoxedJob {
     ghost allows = { λ _ job progress. let task = BoxedTask-box job.0 in
         IsAnswered (task.tag_of job.0.value) (task.may_answer job.0.value) progress };
 
-    // None: it takes no memory.
+    // No job may run out of memory, since its step allocates nothing.
     ghost may_lack_memory = { λ _ _. ⊥ };
 
     ghost abandons = { λ _ job left. left ≡ job };
@@ -60,7 +62,7 @@ impl<A: Allocator> Job<A> for BoxedJob {
         0
     }
 
-    /// Takes no memory, and so it always answers `Ok`.
+    /// Runs the task. It allocates nothing, so it always returns `Ok`.
     fn step(self, _alloc: A, _ctx: &()) -> Result<Progress<BoxedJob, TaskOut>, AllocError>
         ensures law { let task = BoxedTask-box self.0 in IfOk result
             (IsAnswered (task.tag_of self.0.value) (task.may_answer self.0.value)) }
@@ -74,7 +76,7 @@ impl<A: Allocator> Job<A> for BoxedJob {
         Ok(Progress::Done(TaskOut { tag, answer }))
     }
 
-    /// The task isn't run.
+    /// Returns the job without running its task.
     fn abandon(self, _ctx: &()) -> BoxedJob {
         self
     }

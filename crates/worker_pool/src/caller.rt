@@ -1,4 +1,5 @@
-//! The one that opened a pool, as its body sees it.
+//! The caller: what the body of a pool schedules and cancels by. `specs/Callers` says what stays
+//! true of a caller; `opening/opener_state.rt` makes it and takes it apart.
 ghost use Rattle.std.specs.Prelude.{◌≡◌, ◌≤◌, [], ◌∷◌, ◌++◌};
 ghost use Rattle.worker_pool.specs.Callers.{IsCaller, StaysCaller, Closes, IsCancelled, roots_of};
 ghost use Rattle.worker_pool.specs.Callers.{started_of, workers_of, stop_of};
@@ -15,7 +16,7 @@ use run_queue::Rows;
 use std::alloc::Allocator;
 use std::sync::Wait;
 
-/// What a pool lends its body: jobs are scheduled through it.
+/// The handle that a pool lends to its body, which schedules jobs through it.
 pub struct Caller<
     'p,
     J: Job<A>,
@@ -30,11 +31,12 @@ pub struct Caller<
     pub(crate) ctx: &'p J::Ctx,
     pub(crate) seats: OpenerSeats<J, A, W, R>,
     pub(crate) stop_seat: StopSeat<J>,
-    /// What those that wait were last told of the stop word.
+    /// What this thread had stored in the stop word when it last woke all workers. It takes no
+    /// memory: contracts alone see it.
     pub(crate) told: Told<J>,
     pub(crate) outs: L::List,
     pub(crate) refused: u64,
-    /// Whether it cancelled the pool.
+    /// Whether the body cancelled the pool through this caller.
     pub(crate) cancelled: bool,
 }
 
@@ -46,8 +48,8 @@ where
     R: Rows<J, A>,
     L: Lists<J::Out, A>,
 {
-    /// Schedules a job: it goes to the back of a row that a random word picks, and one worker is
-    /// woken. Where the row is full, or no worker was started, the job is run at once.
+    /// Schedules a job. It goes to the back of a row that a random word picks, and one worker is
+    /// woken. If the row is full, or no worker was started, the job runs at once on this thread.
     pub fn schedule<RT: Wait>(&mut self, rt: &RT, job: J)
         requires { IsCaller R.Rows W.WaitPoint J.Job L.Lists self.old }
         ensures caller { StaysCaller R.Rows W.WaitPoint J.Job L.Lists self.old self.new }
@@ -70,8 +72,8 @@ where
         self.refused = self.refused.saturating_add(refused);
     }
 
-    /// Cancels the pool: each worker ends before its next turn. Jobs are scheduled as before, and
-    /// those that nobody has run are handed back once the pool is closed.
+    /// Cancels the pool: each worker ends before its next turn. Jobs can still be scheduled. The
+    /// jobs that nobody has run are handed back once the pool is closed.
     pub fn cancel<RT: Wait>(&mut self, rt: &RT)
         requires { IsCaller R.Rows W.WaitPoint J.Job L.Lists self.old }
         ensures caller { StaysCaller R.Rows W.WaitPoint J.Job L.Lists self.old self.new }
@@ -83,7 +85,7 @@ where
         self.told = self.seats.wake_all(rt, self.queue, &self.stop_seat);
     }
 
-    /// How many workers were started: at most those that the pool was set up with.
+    /// Returns how many workers were started, which is at most the number of the setup.
     pub fn workers(&self) -> u32
         requires { IsCaller R.Rows W.WaitPoint J.Job L.Lists self.now }
         ensures started { result ≡ started_of self.now }
@@ -101,7 +103,7 @@ where
     R: Rows<J, A>,
     L: Lists<J::Out, A>,
 {
-    /// From now on the pool is closing. Where it was cancelled it stays so.
+    /// Stores that the pool is closing, and wakes all workers. A cancelled pool stays cancelled.
     pub(crate) fn close<RT: Wait>(&mut self, rt: &RT)
         requires { IsCaller R.Rows W.WaitPoint J.Job L.Lists self.old }
         ensures { Closes R.Rows W.WaitPoint self.old self.new }

@@ -1,4 +1,5 @@
-//! Opening a pool, working in it, and closing it.
+//! The calls that open a pool, run jobs in it, and close it. All of them call `with_pool_by`. A new
+//! call differs in what opens the rows and the point (`Opens`), or in the body.
 ghost use Rattle.std.specs.Prelude.{◌≡◌, ◌+◌, ◌<◌, ◌≤◌, ◌↔◌, [], ◌∷◌, ◌++◌, vec_len, IfOk};
 ghost use Rattle.std.specs.Prelude.{IsErrOf};
 ghost use Rattle.std.specs.Fn.{FnOnceReturnsAtMut};
@@ -26,9 +27,11 @@ use std::sync::Wait;
 use std::thread::Threads;
 use waking_rows::{RowPoint, WakingRows};
 
-/// Opens a pool, and lends its caller to the body while workers run the jobs that it schedules, and
-/// their kids. Ends once all of them have run, or hands back those that nobody ran where the body
-/// cancelled the pool.
+/// Opens a pool, and lends a caller to `body`. Workers run the jobs that the body schedules, and
+/// their kids. Returns once all jobs have run. If the body cancelled the pool, the jobs that nobody
+/// ran are handed back.
+///
+/// `gate` is called before each turn of a worker. Rows and wait point are opened separately.
 pub fn with_pool<W, R, L, RT, J, A, G, F>(
     rt: &RT,
     alloc: A,
@@ -70,8 +73,8 @@ where
     with_pool_limited::<W, R, L, _, _, _, _, _>(rt, alloc, setup, ctx, gate, setup.workers, body)
 }
 
-/// Does what `with_pool` does, and starts only the workers with numbers below `starts`, as if the
-/// other starts had been refused.
+/// Does what `with_pool` does, but starts only the workers with numbers below `starts`, as if the
+/// threads of the other workers could not be started.
 pub fn with_pool_limited<W, R, L, RT, J, A, G, F>(
     rt: &RT,
     alloc: A,
@@ -116,7 +119,7 @@ where
     with_pool_by::<W, R, L, _, _, _, _, _, Apart>(rt, alloc, setup, ctx, gate, starts, body)
 }
 
-/// The same, with rows and a point that are so opened.
+/// Does what `with_pool_limited` does, with the rows and the wait point that `O` opens.
 fn with_pool_by<W, R, L, RT, J, A, G, F, O>(
     rt: &RT,
     alloc: A,
@@ -175,8 +178,8 @@ where
     Ok(close(rt, pool, ctx, opener, homes, opened.gathered))
 }
 
-/// Opens a pool, schedules a root job in it, and calls what comes then, while workers run the job
-/// and its kids. Ends once all of them have run.
+/// Opens a pool, schedules the job `root` in it, and calls `then`, while workers run the job and
+/// its kids. Returns once all of them have run.
 pub fn with_root<W, R, L, RT, J, A, G, F>(
     rt: &RT,
     alloc: A,
@@ -214,8 +217,8 @@ where
     with_root_by::<W, R, L, _, _, _, _, _, Apart>(rt, alloc, setup, ctx, gate, root, then)
 }
 
-/// Does what `with_root` does, over one count that has the rows' lengths and the stop, so that no
-/// job is slept on.
+/// Does what `with_root` does, with rows and a wait point over one event count. So no job lies
+/// forgotten in a row while all workers sleep.
 pub fn with_counted_root<L, RT, J, A, G, F>(
     rt: &RT,
     alloc: A,
@@ -251,7 +254,7 @@ where
     )
 }
 
-/// The same, with rows and a point that are so opened.
+/// Does what `with_root` does, with the rows and the wait point that `O` opens.
 fn with_root_by<W, R, L, RT, J, A, G, F, O>(
     rt: &RT,
     alloc: A,

@@ -1,57 +1,60 @@
-//! A pool of workers that run jobs, as Eigen's `NonBlockingThreadPool.h`.
+//! A pool of workers that run jobs, as in Eigen's `NonBlockingThreadPool.h`.
+//!
+//! README.md has a picture of a worker's turn, and says what is proved. `parallel_for` and `uses`
+//! open pools. `waking_rows` and `event_word` prove that no job is forgotten, from the order of the
+//! steps that `working/` takes. Add a new public call to CALLING.md.
 //!
 //! # Use
 //!
-//! A pool is opened for one call, in which its body schedules jobs, and closed once all have ended:
+//! A pool is opened for one call. The call's body schedules jobs, and the pool is closed once all
+//! jobs have ended:
 //!
 //!     with_pool::<W, R, L, ..>(rt, alloc, &setup, &ctx, &gate, |caller| caller.schedule(rt, job))
 //!
-//! A job takes one step at a time. A step forks a kid, which is a job of its own, or is the last
-//! and leaves an out. `with_root` is a `with_pool` whose body schedules one job, and so is
-//! `with_counted_root`, over rows that wake. `W` is what workers wait at, `R` their rows, `L` the
-//! caller's list of outs.
+//! A job takes one step at a time. A step forks a kid, which is a job of its own, or it is the last
+//! step and leaves an out (the job's result). `with_root` is a `with_pool` whose body schedules one
+//! job. `with_counted_root` does this over rows that wake workers. `W` is the point at which
+//! workers wait, `R` is their rows, and `L` is the kind of the lists of outs.
 //!
 //! # A worker's turn
 //!
-//! ```text
-//! the gate is called; a pool that was cancelled ends the worker
-//!   a job?   the front of its own row
-//!            the backs of its partition's rows, by a walk
-//!            the backs of all rows, by a walk
-//!   none:    prewait; then the stop word, and the lengths of all rows
-//!              a row has a job   cancel the wait, take it there, or yield and turn again
-//!              stopped           cancel the wait, and end
-//!              neither           commit: sleep until somebody wakes it, and turn again
-//! a job is run
-//!   room for its out is taken; where there is none the job is abandoned, and counted as refused
-//!   a kid goes in front of the worker's own row, and one waiter is woken; where the row is full
-//!   the worker runs the kid at once
-//! ```
+//! The gate is called before each turn. If the pool was cancelled, the worker ends. Otherwise it
+//! looks for a job at the front of its own row, then by random walks at the backs of its
+//! partition's rows and of all rows. If it finds none, it calls prewait on the point, and loads the
+//! stop word and the lengths of all rows. If a row has a job, it cancels the wait and takes the job
+//! there, or yields if the job is gone. If the pool is closing, it cancels the wait and ends.
+//! Otherwise it sleeps until it is woken.
 //!
-//! The thread that opened the pool puts jobs at the back of rows that random words pick, and wakes
-//! a waiter for each. Where the row is full it runs the job.
+//! To run a job, the worker first allocates memory for its out. If that fails, the job is abandoned
+//! and counted as refused. Each kid goes to the front of the worker's own row, and one waiter is
+//! woken. If the row is full, the worker runs the kid at once.
+//!
+//! The thread that opened the pool puts each job at the back of a row that a random word picks, and
+//! wakes a waiter. If the row is full, or no worker was started, it runs the job itself.
 //!
 //! # How a pool ends
 //!
-//! The body returns, or has cancelled the pool; the opener stores the stop word and wakes all. Each
-//! worker ends at its last turn and is joined. Jobs that are in the rows then are run by the
-//! opener, or handed back where the pool was cancelled. A worker whose thread was refused takes no
-//! turn, and what it was to work with comes home unused.
+//! When the body returns, the opener stores the stop word and wakes all workers. Each worker ends
+//! at its last turn and is joined. Jobs that are still in the rows are run by the opener, or handed
+//! back if the pool was cancelled. A worker whose thread could not be started takes no turn, and
+//! returns its state unused.
 //!
 //! # Why each job ends once
 //!
-//! Inside the crate no job may be dropped, and a job isn't `Clone`: it moves from the caller or a
-//! fork into a row and out of it, and ends as a node: done, refused or left. A worker, the caller
-//! and the closer each keep one account of the jobs that came to them, and two accounts append.
-//! Where the rows keep accounts too, all together are the account of the jobs that were scheduled.
+//! No code that runs jobs may drop them, and a job is not `Clone`. It moves from the caller or a
+//! fork into a row and out of it, and ends as a node: done, refused or left. Each worker, the
+//! caller and the closer keep an account of the jobs that came to them, and accounts can be
+//! appended. If the rows keep accounts too, all of these together are the account of the scheduled
+//! jobs.
 //!
 //! # Why no job is forgotten by sleepers
 //!
-//! Whoever puts a job in raises its row's length before it wakes a waiter, and a worker commits
-//! only where it found the stop word 0 and all lengths 0 since its prewait. `with_counted_root`
-//! opens rows and point over one count: there no job that lies in a row is without somebody to wake,
-//! by a law of `waking_rows` over both tables, and this order adds nothing. Over other rows and
-//! points it is a law of `event_word`, and that the steps here are the model's is read.
+//! A thread that puts a job in raises its row's length before it wakes a waiter. A worker commits
+//! to a wait only if it found the stop word 0 and all lengths 0 since its prewait.
+//! `with_counted_root` opens rows and point over one count. There a law of `waking_rows` over both
+//! tables says that some thread is to wake a worker for each job in a row, and this order adds
+//! nothing. For other rows and points it is a law of `event_word`. That the steps here are the
+//! steps of that model is argued from the code.
 #![tactic(auto)]
 
 mod boxed;

@@ -1,4 +1,4 @@
-//! How a pool is opened, and its workers are started and brought home.
+//! How a pool is opened, and how its workers are started and joined. A list of modules.
 
 pub(crate) mod open;
 pub(crate) mod opener_state;

@@ -1,4 +1,5 @@
-//! How a pool is set up.
+//! How a pool is set up: its number of workers and their partitions. `PoolFault` reaches callers of
+//! `parallel_for` too. `specs/Setup` has the limits.
 ghost use Rattle.std.specs.Prelude.{◌≡◌, ◌<◌, ◌↔◌, ◌⊎◌, false, IsTrue, IsOk, IsErrOf};
 ghost use Rattle.worker_pool.specs.Setup.{IsPoolSize, IsNoPoolSize, ArePartitions};
 ghost use Rattle.worker_pool.specs.Setup.{AreNoPartitions};
@@ -9,16 +10,20 @@ use std::alloc::{AllocError, Allocator, Global};
 use steal_walk::Partition;
 use thiserror::Error;
 
-/// How many workers a pool has at most: each has a row.
+/// The most workers that a pool can have: each has a row.
 pub const MOST_WORKERS: u32 = MOST_ROWS as u32;
 
 /// Why a pool was not opened.
 #[derive(Clone, Copy, Debug, PartialEq, Eq, Hash, Error)]
 pub enum PoolFault {
+    /// There are 0 workers, or more than `MOST_WORKERS`.
     #[error("no worker, or more than {MOST_WORKERS}")]
     BadWorkers = 1,
+    /// There are partitions, but not one for each worker, or a partition ends past the pool's last
+    /// row.
     #[error("neither no partition nor one for each worker, or one that ends past the pool")]
     BadPartition = 2,
+    /// An allocation failed while the pool was opened.
     #[error("out of memory")]
     NoMemory = 3,
 }
@@ -34,16 +39,18 @@ impl From<AllocError> for PoolFault {
     }
 }
 
-/// How many workers a pool has, and in which rows each looks first.
+/// The size of a pool, and the rows in which each worker looks first.
 #[derive(Debug, Drop)]
 pub struct Setup<A: Allocator = Global> {
+    /// How many workers the pool has, from 1 to `MOST_WORKERS`.
     pub workers: u32,
-    /// None: each worker has the whole pool. Else one for each worker, by number.
+    /// The partition of each worker, by number. If the list is empty, each worker looks in all
+    /// rows.
     pub partitions: Vec<Partition, A>,
 }
 
 impl<A: Allocator> Setup<A> {
-    /// The fault that `with_pool` would find in these numbers.
+    /// Checks these numbers, and returns the fault that `with_pool` would return for them.
     pub fn check(&self) -> Result<(), PoolFault>
         ensures ok { IsOk result
             ↔ (IsPoolSize self.now.workers

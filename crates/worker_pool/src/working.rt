@@ -1,4 +1,4 @@
-//! What workers do, and what they share.
+//! What workers do, and what they share. A list of modules.
 
 pub(crate) mod home_rows;
 pub(crate) mod job_queue;

@@ -1,6 +1,7 @@
 """numpy's functions over expressions, each made of operations of the request. The examples of their
 docstrings take their names from the package."""
 
+import inspect
 import sys
 import typing
 
@@ -8,6 +9,7 @@ from .. import methods
 from . import linalg as linalg
 from .chosen import *
 from .counted import *
+from .delegated import or_numpys as _or_numpys
 from .einstein import *
 from .joined import *
 from .made import *
@@ -21,3 +23,6 @@ from .valuewise import *
 
 if not typing.TYPE_CHECKING:
     methods.functions = sys.modules[__name__]
+    for _name, _it in [*globals().items()]:
+        if inspect.isfunction(_it):
+            globals()[_name] = _or_numpys(_it)

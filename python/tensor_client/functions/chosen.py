@@ -21,6 +21,8 @@ __all__ = [
 
 # So many nodes what is taken in parts may have.
 MOST_IN_PARTS = 30
+# Several runs of fewer offsets cost more as parts than as offsets that are taken.
+LEAST_RUN = 16
 Run = Tuple[int, int, int]
 
 
@@ -113,10 +115,11 @@ def take(a: Any, indices: Any, axis: Any = None, out: None = None, mode: str = "
 
 
 def at_offsets(expr: Expr, at: Expr, axis: int) -> Expr:
-    """What stands at these offsets of an axis: parts of it, where these are few and the expression
-    is short, since each part has the expression in it; or else what the request takes."""
+    """What stands at these offsets of an axis: parts of it, where these are long and few and the
+    expression is short, since each part has the expression in it; or else what the request takes."""
     if isinstance(at, Tensor) and at.ndim == 1:
-        runs = runs_of(at.held, max(MOST_IN_PARTS // expr.nodes, 1))
+        most = max(min(MOST_IN_PARTS // expr.nodes, len(at.own) // LEAST_RUN), 1)
+        runs = runs_of(at.held, most)
         if runs is not None:
             return in_parts(expr, runs, axis)
     return expr.taken(at, axis)
@@ -145,18 +148,20 @@ def runs_of(numbers: Sequence[int], most: int) -> Optional[List[Run]]:
 
 def in_parts(expr: Expr, runs: Sequence[Run], axis: int) -> Expr:
     """What stands at runs of offsets along an axis, one behind another."""
-    return concatenate([run_along(expr, *it, axis) for it in runs], axis)
+    every = [[(0, 1, it)] for it in expr.shape]
+    return in_blocks(expr, [*every[:axis], runs, *every[axis + 1 :]])
 
 
-def run_along(expr: Expr, first: int, step: int, count: int, axis: int) -> Expr:
-    """What stands at a run of offsets along an axis."""
-    if not step:
-        one = part(expr, axis, first, first + 1)
-        return one.broadcast([count if it == axis else 1 for it in range(expr.ndim)])
-    index, stop = [slice(None)] * expr.ndim, first + step * count
-    index[axis] = slice(first, stop if stop >= 0 else None, step)
-    found: Expr = expr[tuple(index)]
-    return found
+def in_blocks(expr: Expr, runs: Sequence[Sequence[Run]], *cut: Run) -> Expr:
+    """What stands at runs of offsets along each axis: blocks, each cut out of the expression along
+    all axes at once, put together. A run is chosen already along each of the first axes."""
+    axis = len(cut)
+    if axis < len(runs):
+        return concatenate([in_blocks(expr, runs, *cut, it) for it in runs[axis]], axis)
+    ends = [first + (step * count or 1) if count else first for first, step, count in cut]
+    index = [slice(it[0], end if end >= 0 else None, it[1] or 1) for it, end in zip(cut, ends)]
+    found, counts = expr[tuple(index)], [1 if step else count for _, step, count in cut]
+    return found if {*counts} <= {1} else found.broadcast(counts)
 
 
 def compress(condition: Any, a: Any, axis: Any = None) -> Expr:

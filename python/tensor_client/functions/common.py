@@ -8,7 +8,7 @@ from .. import rules
 from ..expressions import Expr
 from ..memory import INT64
 from ..tensors import an_expr
-from ..values import numbers_of, numpy, whole
+from ..values import NumpysOwn, numbers_of, numpy, whole
 
 INT64_NAMES, BOOL_NAMES = (int, "int", "int64", "i8"), (bool, "bool", "?")
 
@@ -80,4 +80,4 @@ def as_dtype(x: Any, dtype: Any) -> Expr:
         return expr.as_numbers()
     if kind == bool if kind is not None else dtype in BOOL_NAMES:
         return expr if expr.truth else expr.ne(0)
-    raise TypeError(f"dtype {kind or dtype}: all values are int64; run(x).array().astype(..)")
+    raise NumpysOwn(f"dtype {kind or dtype}: all values are int64; run(x).array().astype(..)")

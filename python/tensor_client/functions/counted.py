@@ -4,7 +4,7 @@ is run; without numpy lists are sorted, and searched by halves."""
 from __future__ import annotations
 
 from bisect import bisect_left, bisect_right
-from typing import Any, List, Tuple
+from typing import Any, List, Tuple, overload
 
 from ..faults import OutOfRange, ShapeMismatch
 from ..rules import fitted, spread
@@ -81,17 +81,22 @@ def digitize(x: Any, bins: Any, right: bool = False) -> Tensor:
     return (len(line) - placed(line[::-1], x, side))._answered()
 
 
-def bincount(x: Any, weights: Any = None, minlength: int = 0) -> Tensor:
-    """How often each number from 0 up stands in a list, or what the weights beside it come to.
+@overload
+def bincount(x: Any, weights: None = None, minlength: int = 0) -> Tensor: ...
+@overload
+def bincount(x: Any, weights: Any, minlength: int = 0) -> Any: ...
+def bincount(x: Any, weights: Any = None, minlength: int = 0) -> Any:
+    """How often each number from 0 up stands in a list, or what the weights beside it come to: as
+    an array of fractions, which numpy has them as, or without numpy as a tensor.
 
-    >>> bincount([0, 2, 2, 3]).values, bincount([0, 1, 1], weights=[5, 6, 7]).values
-    ([1, 0, 2, 1], [5, 13])
+    >>> bincount([0, 2, 2, 3]).values
+    [1, 0, 2, 1]
     """
     line = an_expr(x)._answered()
     if line.ndim != 1:
         raise ValueError(f"a bincount of dims {line.shape}: .ravel() has one axis")
-    if numpy is not None and weights is None:
-        return tensor_by_numpy("bincount", line, minlength=whole(minlength))
+    if numpy is not None:
+        return by_numpy("bincount", line, weights, minlength=whole(minlength))
     numbers = line.values
     if min(numbers, default=0) < 0:
         raise ValueError("a bincount of numbers below 0")
@@ -169,6 +174,10 @@ def nonzero(a: Any) -> Tuple[Tensor, ...]:
     return tuple(found)
 
 
+@overload
+def unique(ar: Any) -> Tensor: ...
+@overload
+def unique(ar: Any, **more: Any) -> Any: ...
 def unique(ar: Any, **more: Any) -> Any:
     """The values, each once, in order; and what else numpy's function of this name gives.
 

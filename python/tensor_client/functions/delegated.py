@@ -5,16 +5,19 @@ from __future__ import annotations
 
 import difflib
 import functools
+import inspect
 import operator
+import re
 from typing import Any, Callable, Iterable, List
 
 from ..expressions import Expr
 from ..memory import INT64
 from ..tensors import Tensor, an_expr, tensor
-from ..values import numpy
+from ..values import NumpysOwn, numpy
 from .common import flat, moved
 
 Lines = Callable[[List[int]], List[int]]
+NOT_LAID_OUT = "how values lie is known of what has run: run(x)"
 WRITTEN = "a tensor isn't written: x.at[i].set(v) and where(condition, v, x) have other values"
 # What numpy's arrays and functions write into arrays that are there.
 WRITING = frozenset(
@@ -24,6 +27,8 @@ WRITING = frozenset(
 IN_PLACE = frozenset("sort partition resize".split())
 # What a tensor has, and an expression that hasn't run.
 TENSOR_HAS = "array", "nested", "values"
+# What asks how values lie in memory.
+LAYOUT = frozenset("flags strides isfortran may_share_memory".split())
 
 
 def as_arrays(value: Any) -> Any:
@@ -54,6 +59,10 @@ class Delegated:
         self.function = function
 
     def __call__(self, *inputs: Any, **more: Any) -> Any:
+        if isinstance(more.get("out"), Expr):
+            raise TypeError(WRITTEN)
+        if self.__name__ in LAYOUT and any(type(it) is Expr for it in inputs):
+            raise TypeError(NOT_LAID_OUT)
         return as_tensors(self.function(*as_arrays(inputs), **as_arrays(more)))
 
     def __getattr__(self, name: str) -> Any:
@@ -69,6 +78,35 @@ def by_numpy(name: str, *inputs: Any, **more: Any) -> Any:
     return Delegated(operator.attrgetter(name)(numpy))(*inputs, **more)
 
 
+def or_numpys(function: Any) -> Any:
+    """A function of this package, or numpy's of its name where it takes what tensors don't have:
+    fractions, other dtypes, and arguments that this package's hasn't."""
+    name, signature = function.__name__, inspect.signature(function)
+
+    @functools.wraps(function)
+    def either(*inputs: Any, **more: Any) -> Any:
+        try:
+            return function(*inputs, **more)
+        except TypeError as refused:
+            if not hasattr(numpy, name) or not (
+                isinstance(refused, NumpysOwn) or is_unfit(signature, inputs, more)
+            ):
+                raise
+        return by_numpy(name, *inputs, **more)
+
+    either.__module__ = __package__ or ""
+    return either
+
+
+def is_unfit(signature: inspect.Signature, inputs: Any, more: Any) -> bool:
+    """Whether a function doesn't have these arguments."""
+    try:
+        signature.bind(*inputs, **more)
+    except TypeError:
+        return True
+    return False
+
+
 def tensor_by_numpy(name: str, *inputs: Any, **more: Any) -> Tensor:
     """The tensor that numpy's function of this name gives."""
     found: Tensor = by_numpy(name, *inputs, **more)
@@ -77,6 +115,9 @@ def tensor_by_numpy(name: str, *inputs: Any, **more: Any) -> Tensor:
 
 def function_of(module: Any, name: str, owner: str, names: Any) -> Any:
     """What a module of numpy's has by a name that this package's hasn't."""
+    if not hasattr(module, name):
+        # The array API's name of what numpy has had by another.
+        name = re.sub("^a(?=cos|sin|tan)", "arc", name)
     found = None if name.startswith("_") or name in WRITING else getattr(module, name, None)
     if found is None:
         raise AttributeError(no_name(owner, name, names))
@@ -89,6 +130,8 @@ def method_of(expr: Expr, name: str) -> Any:
     it is called."""
     if name in TENSOR_HAS and not isinstance(expr, Tensor):
         return getattr(expr._answered(), name)
+    if name in LAYOUT and not isinstance(expr, Tensor):
+        raise AttributeError(f"{type(expr).__name__} has no {name!r}: {NOT_LAID_OUT}")
     of_arrays = None if numpy is None else getattr(numpy.ndarray, name, None)
     if of_arrays is None or name in WRITING | IN_PLACE:
         raise AttributeError(no_name(type(expr).__name__, name, dir(type(expr))))

@@ -7,6 +7,7 @@ from typing import Any, List, Set, Tuple
 from ..expressions import Expr
 from ..faults import ShapeMismatch
 from ..tensors import an_expr
+from ..values import NumpysOwn
 from .matrices import diagonal
 
 __all__ = [
@@ -29,7 +30,7 @@ def einsum(labels: str, *operands: Any) -> Expr:
     [[17, 39]]
     """
     if not isinstance(labels, str):
-        raise TypeError("einsum asks for its letters first, as in einsum('ij,jk->ik', x, y)")
+        raise NumpysOwn("einsum asks for its letters first, as in einsum('ij,jk->ik', x, y)")
     told, exprs = labels.replace(" ", ""), [an_expr(it) for it in operands]
     named, arrow, result = told.partition("->")
     inputs = named.split(",")
@@ -83,7 +84,7 @@ def summed(named: Named, wanted: Set[str]) -> Named:
     words, expr = named
     gone = [at for at, it in enumerate(words) if it not in wanted]
     left = "".join(it for it in words if it in wanted)
-    return left, expr.reduced("sum", gone) if gone else expr
+    return left, expr.reduced("any" if expr.truth else "sum", gone) if gone else expr
 
 
 def multiplied(left: Named, right: Named, wanted: Set[str]) -> Named:

@@ -8,7 +8,7 @@ from .. import rules
 from ..expressions import Expr
 from ..faults import OutOfRange, ShapeMismatch
 from ..tensors import an_expr
-from ..values import is_several, numbers_of, whole
+from ..values import NumpysOwn, is_several, numbers_of, whole
 from .common import beside_axis, flat, moved, part
 from .rearranged import atleast_1d, atleast_2d, atleast_3d, broadcast_to, of_two_axes, with_axes
 
@@ -254,7 +254,7 @@ def insert(arr: Any, obj: Any, values: Any, axis: Optional[int] = None) -> Expr:
     [5, 6, 7]
     """
     if is_several(obj) or isinstance(obj, slice):
-        raise TypeError("insert takes one offset: concatenate puts several parts together")
+        raise NumpysOwn("insert takes one offset: concatenate puts several parts together")
     expr, along = flat(arr, axis)
     length = expr.shape[along]
     at = offsets_of(obj, length, past=1)[0]

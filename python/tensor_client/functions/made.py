@@ -2,7 +2,7 @@
 
 from __future__ import annotations
 
-from typing import Any, Callable, Iterable, List, Optional
+from typing import Any, List, Optional
 
 from .. import rules
 from .. import tensors
@@ -14,8 +14,8 @@ from .rearranged import broadcast_to
 
 __all__ = [
     "arange", "array", "asanyarray", "asarray", "ascontiguousarray", "asfortranarray", "copy",
-    "empty", "empty_like", "fromfunction", "fromiter", "full", "full_like", "indices",
-    "meshgrid", "ones", "ones_like", "zeros", "zeros_like",
+    "empty", "empty_like", "full", "full_like", "indices", "meshgrid", "ones", "ones_like", "zeros",
+    "zeros_like",
 ]
 
 
@@ -48,25 +48,11 @@ def copy(x: Any) -> Expr:
     >>> copy([1, 2]).values
     [1, 2]
     """
-    found = an_expr(x)
-    return Tensor(list(found.values), found.shape, found.truth) if isinstance(
-        found, Tensor
-    ) else found
+    expr = an_expr(x)
+    return Tensor([*expr.values], expr.shape, expr.truth) if isinstance(expr, Tensor) else expr
 
 
-def fromiter(values: Iterable[Any], dtype: Any = None, count: int = -1) -> Expr:
-    """A tensor of what is gone over, the first so many.
-
-    >>> fromiter((it * it for it in range(4)), int).values
-    [0, 1, 4, 9]
-    """
-    found = list(values)
-    if count > len(found):
-        raise ValueError(f"{len(found)} values and not {count}")
-    return as_dtype(tensor(found if count < 0 else found[:count]), dtype)
-
-
-def arange(start: int, stop: Optional[int] = None, step: int = 1, dtype: Any = None) -> Expr:
+def arange(start: int = 0, stop: Optional[int] = None, step: int = 1, dtype: Any = None) -> Expr:
     """The numbers from one to another, without that, by steps.
 
     >>> arange(2, 9, 3).values
@@ -157,7 +143,7 @@ def indices(dimensions: Any) -> Expr:
     return stack(meshgrid(*map(range, sizes), indexing="ij"))
 
 
-def meshgrid(*axes: Any, indexing: str = "xy", sparse: bool = False) -> List[Any]:
+def meshgrid(*axes: Any, indexing: str = "xy", sparse: bool = False) -> List[Expr]:
     """The values of each list along an axis of its own; the first two axes change their places
     where `indexing` is "xy".
 
@@ -178,13 +164,3 @@ def meshgrid(*axes: Any, indexing: str = "xy", sparse: bool = False) -> List[Any
         return exprs
     dims = rules.fitted(*[it.shape for it in exprs]) if exprs else ()
     return [broadcast_to(it, dims) for it in exprs]
-
-
-def fromfunction(function: Callable[..., Any], shape: Any, dtype: Any = None) -> Expr:
-    """What a function gives of the indices along each axis.
-
-    >>> run(fromfunction(lambda i, j: i * 10 + j, (2, 2))).nested()
-    [[0, 1], [10, 11]]
-    """
-    sizes = rules.legal(rules.sizes(listed([shape], whole)))
-    return as_dtype(function(*meshgrid(*map(range, sizes), indexing="ij")), dtype)

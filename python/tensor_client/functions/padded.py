@@ -4,10 +4,11 @@ from __future__ import annotations
 
 from typing import Any, List, Sequence, Tuple
 
+from .. import rules
 from ..expressions import Expr
 from ..tensors import Tensor, an_expr, full
-from ..values import is_several, listed, value_of, whole
-from .chosen import at_offsets
+from ..values import NumpysOwn, is_several, listed, value_of, whole
+from .chosen import MOST_IN_PARTS, at_offsets, in_blocks, runs_of
 from .common import beside_axis
 
 __all__ = ["pad"]
@@ -27,16 +28,23 @@ def pad(x: Any, pad_width: Any, mode: str = "constant", constant_values: Any = 0
     expr = an_expr(x)
     widths = pairs_of(pad_width, expr.ndim, whole)
     if mode not in MODES:
-        raise ValueError(f"a mode of pad is one of {MODES}, and not {mode!r}")
+        raise NumpysOwn(f"a mode of pad is one of {MODES}, and not {mode!r}")
+    expr.zeros_around(widths)  # Widths that can't be are a fault here.
     if mode in ("constant", "empty"):
         return constants_around(expr, widths, pairs_of(constant_values, expr.ndim, value_of))
-    expr.zeros_around(widths)  # Widths that can't be are a fault here.
-    for axis, (before, behind) in enumerate(widths):
-        if (before or behind) and not expr.shape[axis]:
+    runs = []
+    for axis, (length, (before, behind)) in enumerate(zip(expr.shape, widths)):
+        if (before or behind) and not length:
             raise ValueError(f"nothing along axis {axis} of dims {expr.shape} goes on")
-        if before or behind:
-            at = gone_on(expr.shape[axis], before, behind, mode)
-            expr = at_offsets(expr, Tensor(at, [len(at)]), axis)
+        ends = range(-before, 0), range(length, length + behind)
+        first, last = (runs_of(gone_on(length, it, mode), len(it)) or [] for it in ends)
+        found = [*first, (0, 1, length), *last]
+        runs.append([it for it in found if it[2]] or found[:1])
+    if rules.product([*map(len, runs)]) * expr.nodes <= MOST_IN_PARTS:
+        return in_blocks(expr, runs)
+    for axis, it in enumerate(runs):
+        at = [first + step * at for first, step, count in it for at in range(count)]
+        expr = at_offsets(expr, Tensor(at, [len(at)]), axis)
     return expr
 
 
@@ -67,26 +75,23 @@ def constants_around(expr: Expr, widths: Sequence[Pair], values: Sequence[Pair])
             return expr.not_().zeros_around(widths).not_()
         # Zeros stand for the value where it is taken away before and added behind.
         return expr.sub(value).zeros_around(widths).add(value)
-    expr.zeros_around(widths)  # Widths that can't be are a fault here.
     for axis, (counts, ends) in enumerate(zip(widths, values)):
         dims = [beside_axis(expr.shape, axis, [it]) for it in counts]
         expr = full(dims[0], ends[0]).concat(expr, axis).concat(full(dims[1], ends[1]), axis)
     return expr
 
 
-def gone_on(length: int, before: int, behind: int, mode: str) -> List[int]:
-    """Which offsets of an axis stand where it goes on at both ends.
+def gone_on(length: int, places: range, mode: str) -> List[int]:
+    """Which offsets of an axis stand at these places, where it goes on at both ends.
 
-    >>> gone_on(3, 2, 1, "reflect"), gone_on(3, 2, 1, "wrap")
+    >>> gone_on(3, range(-2, 4), "reflect"), gone_on(3, range(-2, 4), "wrap")
     ([2, 1, 0, 1, 2, 1], [1, 2, 0, 1, 2, 0])
     """
-    places = range(-before, length + behind)
     if mode == "edge" or length == 1:
         return [min(max(it, 0), length - 1) for it in places]
     if mode == "wrap":
         return [it % length for it in places]
     # There and back again: the edge stands once, or twice.
-    way = [*range(length), *range(length - 1, -1, -1)]
-    if mode == "reflect":
-        way = way[:length] + way[length + 1 : -1]
-    return [way[it % len(way)] for it in places]
+    last = 2 * length - (1 if mode == "symmetric" else 2)
+    found = [it % (last + (mode == "symmetric")) for it in places]
+    return [min(it, last - it) for it in found]

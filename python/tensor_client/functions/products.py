@@ -2,20 +2,27 @@
 
 from __future__ import annotations
 
+import functools
 from typing import Any, List, Sequence
 
+from .. import rules
 from ..expressions import Expr
 from ..faults import ShapeMismatch
-from ..rules import alike
+from ..length import FIRST_NODES
 from ..tensors import an_expr
 from ..values import is_several, numbers_of, whole
+from .common import moved
+from .joined import stack
 from .matrices import eye
-from .rearranged import broadcast_to, roll
+from .rearranged import broadcast_to, roll, with_axes
 
 __all__ = [
     "contract", "convolve", "correlate", "cross", "dot", "inner", "kron", "matmul",
     "matrix_power", "multi_dot", "outer", "tensordot", "vdot", "vecdot",
 ]
+
+# From so many products on, a contraction of two matrices takes less than its products, summed.
+LEAST_PRODUCTS = 1 << 15
 
 
 def contract(x: Any, y: Any, pairs: Sequence[Any]) -> Expr:
@@ -56,8 +63,8 @@ def dot(x: Any, y: Any) -> Expr:
 
 
 def matmul(x: Any, y: Any) -> Expr:
-    """numpy's x @ y: of matrices and lists a contraction; of stacks of matrices the products of
-    all pairs of numbers, summed, since a contraction pairs no axis that it keeps.
+    """numpy's x @ y: a contraction; and of two stacks, since a contraction pairs no axis that it
+    keeps, one for each two large matrices, or the products of all pairs of numbers, summed.
 
     >>> matmul(ones((5, 2, 3)), ones((5, 3, 4))).dims
     (5, 2, 4)
@@ -65,15 +72,25 @@ def matmul(x: Any, y: Any) -> Expr:
     left, right = an_expr(x), an_expr(y)
     if not left.shape or not right.shape:
         raise ShapeMismatch("x @ y asks for axes: x * y multiplies by a number")
-    if left.ndim <= 2 and right.ndim <= 2:
+    if left.ndim == 1 or right.ndim <= 2:
         return dot(left, right)
-    if right.ndim <= 2:
-        return dot(left, right)
-    if left.ndim == 1:
-        return matmul(left[None, :], right).in_dims([*right.shape[:-2], right.shape[-1]])
+    if left.ndim == 2:
+        return moved(dot(left, right), 0, right.ndim - 2)
     if left.shape[-1] != right.shape[-2]:
         raise ShapeMismatch(f"dims {left.shape} @ dims {right.shape}")
-    return left[..., None].mul(right[..., None, :, :]).sum(axis=-2)
+    left, right = (with_axes(it, max(left.ndim, right.ndim)) for it in (left, right))
+    count = rules.product(rules.fitted(left.shape[:-2], right.shape[:-2]))
+    is_large = rules.product(left.shape[-2:]) * right.shape[-1] >= LEAST_PRODUCTS
+    if not is_large or not 0 < count * (left.nodes + right.nodes + 5) <= FIRST_NODES:
+        return summed(left[..., None].mul(right[..., None, :, :]), -2)
+    ours, theirs = left.shape[0], right.shape[0]
+    places = range(max(ours, theirs))
+    return stack([matmul(left.chip(it % ours, 0), right.chip(it % theirs, 0)) for it in places])
+
+
+def summed(products: Expr, axis: int) -> Expr:
+    """The sums of products; of truth values these are truth values."""
+    return products.any(axis=axis) if products.truth else products.sum(axis=axis)
 
 
 def vecdot(x1: Any, x2: Any, axis: int = -1) -> Expr:
@@ -82,7 +99,7 @@ def vecdot(x1: Any, x2: Any, axis: int = -1) -> Expr:
     >>> run(vecdot([[1, 2], [3, 4]], [5, 6])).values
     [17, 39]
     """
-    return an_expr(x1).mul(x2).sum(axis=axis)
+    return summed(an_expr(x1).mul(x2), axis)
 
 
 def outer(a: Any, b: Any) -> Expr:
@@ -136,12 +153,10 @@ def cross(a: Any, b: Any, axis: int = -1) -> Expr:
     >>> run(cross([1, 0, 0], [0, 1, 0])).values
     [0, 0, 1]
     """
-    left, right = alike(an_expr(a), an_expr(b))
+    left, right = rules.alike(an_expr(a), an_expr(b))
     length = left.shape[axis]
     if length == 2:
-        (x, y), (z, w) = (
-            (it.chip(0, axis), it.chip(1, axis)) for it in (left, right)
-        )
+        (x, y), (z, w) = ((it.chip(0, axis), it.chip(1, axis)) for it in (left, right))
         return x.mul(w).sub(y.mul(z))
     if length != 3:
         raise ShapeMismatch(f"a cross product of dims {left.shape} along axis {axis}")
@@ -182,17 +197,10 @@ def multi_dot(arrays: Sequence[Any]) -> Expr:
     exprs = [an_expr(it) for it in arrays]
     if len(exprs) < 2:
         raise ValueError("multi_dot of less than two")
-    found = exprs[0]
-    for it in exprs[1:]:
-        found = dot(found, it)
-    return found
+    return functools.reduce(dot, exprs)
 
 
 # Slid along one another.
-
-
-def slid(a: Expr, v: Expr, before: int, behind: int) -> Expr:
-    return a.zeros_around([(before, behind)]).convolve(v, 0)
 
 
 def correlate(a: Any, v: Any, mode: str = "valid") -> Expr:
@@ -210,10 +218,9 @@ def correlate(a: Any, v: Any, mode: str = "valid") -> Expr:
     if right.size > left.size:
         return correlate(right, left, mode).reverse(True)
     most = right.size - 1
-    before, behind = {"valid": (0, 0), "full": (most, most)}.get(
-        mode, (right.size // 2, most - right.size // 2)
-    )
-    return slid(left, right, before, behind)
+    before = {"valid": 0, "full": most, "same": right.size // 2}[mode]
+    behind = most - before if mode == "same" else before
+    return left.zeros_around([(before, behind)]).convolve(right, 0)
 
 
 def convolve(a: Any, v: Any, mode: str = "full") -> Expr:

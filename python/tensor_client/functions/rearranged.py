@@ -3,11 +3,13 @@ them."""
 
 from __future__ import annotations
 
-from typing import Any, List, Optional, Sequence, Tuple
+from typing import Any, List, Optional, Protocol, Sequence, Tuple, overload
 
 from .. import rules
 from ..expressions import Expr
 from ..faults import ShapeMismatch
+from ..memory import LARGE
+from ..operators import told
 from ..rules import Dims, alike, spread
 from ..tensors import an_expr
 from ..values import numbers_of, whole
@@ -50,8 +52,7 @@ def resize(a: Any, new_shape: Any) -> Expr:
     count = rules.product(sizes)
     if count and not line.size:
         raise ValueError("nothing fills no place")
-    often = -(-count // max(line.size, 1))
-    return part(tile(line, often), 0, 0, count).reshape(sizes)
+    return part(tile(line, -(-count // max(line.size, 1))), 0, 0, count).reshape(sizes)
 
 
 # Axes.
@@ -128,9 +129,8 @@ def squeeze(a: Any, axis: Any = None) -> Expr:
     """
     expr = an_expr(a)
     dims = expr.shape
-    gone = named_axes(axis, expr.ndim) if axis is not None else [
-        at for at, it in enumerate(dims) if it == 1
-    ]
+    ones = [at for at, it in enumerate(dims) if it == 1]
+    gone = ones if axis is None else named_axes(axis, expr.ndim)
     if any(dims[it] != 1 for it in gone):
         raise ShapeMismatch(f"axes {gone} of dims {dims} have more or less than one place")
     return expr.in_dims(rules.without(dims, gone))
@@ -154,36 +154,30 @@ def with_axes(x: Any, rank: int) -> Expr:
     return expr if expr.ndim >= rank else expr.in_dims([1] * (rank - expr.ndim) + [*expr.shape])
 
 
-def one_or_all(found: List[Expr]) -> Any:
-    return found[0] if len(found) == 1 else found
+class OneOrAll(Protocol):
+    """What gives an expression of one part, and a list of those of several."""
+
+    @overload
+    def __call__(self, part: Any, /) -> Expr: ...
+    @overload
+    def __call__(self, part: Any, other: Any, /, *parts: Any) -> List[Expr]: ...
 
 
-def atleast_1d(*parts: Any) -> Any:
-    """Each with an axis at least.
+def at_least(rank: int, what: str, example: str, wanted: str) -> OneOrAll:
+    def function(*parts: Any) -> Any:
+        found = [with_axes(it, min(rank, 2)) for it in parts]
+        if rank == 3:
+            found = [it if it.ndim > 2 else it.in_dims([*it.shape, 1]) for it in found]
+        return found[0] if len(found) == 1 else found
 
-    >>> atleast_1d(5).dims
-    (1,)
-    """
-    return one_or_all([with_axes(it, 1) for it in parts])
-
-
-def atleast_2d(*parts: Any) -> Any:
-    """Each with two axes at least, new ones before.
-
-    >>> atleast_2d([5, 6]).dims
-    (1, 2)
-    """
-    return one_or_all([with_axes(it, 2) for it in parts])
+    name = f"atleast_{rank}d"
+    made: OneOrAll = told(function, name, what, f"{name}({example})", wanted)
+    return made
 
 
-def atleast_3d(*parts: Any) -> Any:
-    """Each with three axes at least, the last of two axes first.
-
-    >>> atleast_3d([5, 6]).dims, atleast_3d([[5, 6]]).dims
-    ((1, 2, 1), (1, 2, 1))
-    """
-    flats = [with_axes(it, 2) for it in parts]
-    return one_or_all([it if it.ndim > 2 else it.in_dims([*it.shape, 1]) for it in flats])
+atleast_1d = at_least(1, "Each with an axis at least.", "5", "[5]")
+atleast_2d = at_least(2, "Each with two axes at least, new ones before.", "[5, 6]", "[5, 6]")
+atleast_3d = at_least(3, "Each with three axes, the last of two axes first.", "[5, 6]", "[5, 6]")
 
 
 # Repeated.
@@ -307,14 +301,9 @@ def rot90(m: Any, k: int = 1, axes: Tuple[int, int] = (0, 1)) -> Expr:
     """
     expr = of_two_axes(m)
     first, second = named_axes(axes, expr.ndim)
-    quarters = whole(k) % 4
-    if quarters == 2:
-        return flip(expr, (first, second))
-    if quarters == 0:
-        return expr
-    turned = flip(expr, second) if quarters == 1 else expr
-    turned = swapaxes(turned, first, second)
-    return turned if quarters == 1 else flip(turned, second)
+    turned = [(), (second,), (first, second), (first,)][whole(k) % 4]
+    found = flip(expr, turned) if turned else expr
+    return swapaxes(found, first, second) if len(turned) == 1 else found
 
 
 def roll(a: Any, shift: Any, axis: Any = None) -> Expr:
@@ -325,30 +314,28 @@ def roll(a: Any, shift: Any, axis: Any = None) -> Expr:
     """
     expr = an_expr(a)
     if axis is None:
-        return rolled(expr.ravel(), whole(shift), 0).reshape(expr.shape)
-    shifts, axes = numbers_of(shift), numbers_of(axis)
-    if len(shifts) == 1:
-        shifts = shifts * len(axes)
-    if len(axes) == 1:
-        axes = axes * len(shifts)
-    if len(shifts) != len(axes):
-        raise ShapeMismatch(f"{len(shifts)} shifts along {len(axes)} axes")
-    for by, along in zip(shifts, axes):
-        expr = rolled(expr, by, rules.axis_of(along, expr.ndim))
-    return expr
+        return rolled(expr.ravel(), [-whole(shift)]).reshape(expr.shape)
+    shifts, axes, begins = numbers_of(shift), numbers_of(axis), [0] * expr.ndim
+    for at in range(*rules.fitted((len(shifts),), (len(axes),))):
+        along = rules.axis_of(axes[at % len(axes)], expr.ndim)
+        begins[along] -= shifts[at % len(shifts)]
+    return rolled(expr, begins)
 
 
-def rolled(expr: Expr, shift: int, axis: int) -> Expr:
-    """Moved along one axis: what stands twice in a row, from another offset on."""
-    dims: Sequence[int] = expr.shape
-    begin = -shift % dims[axis] if dims[axis] else 0
-    if not begin:
-        return expr
-    if 2 * rules.places(dims) > rules.FIRST_ELEMENTS:
-        end = part(expr, axis, begin, dims[axis])
-        return end.concat(part(expr, axis, 0, begin), axis)
-    twice = expr.broadcast([2 if it == axis else 1 for it in range(len(dims))])
-    return part(twice, axis, begin, begin + dims[axis])
+def rolled(expr: Expr, begins: Sequence[int]) -> Expr:
+    """From other offsets on along each axis: of few values, or of a long expression, what stands
+    twice in a row along these; or else blocks, which the request reads as they lie."""
+    from .chosen import MOST_IN_PARTS, in_blocks
+
+    dims = expr.shape
+    begins = [begin % dim if dim else 0 for begin, dim in zip(begins, dims)]
+    counts = [2 if it else 1 for it in begins]
+    blocks, size = rules.product(counts), rules.places(dims)
+    is_short = expr.nodes * blocks <= MOST_IN_PARTS
+    if size * blocks > rules.FIRST_ELEMENTS or (size >= LARGE and is_short):
+        cuts = [((it, 1, dim - it), (0, 1, it)) for it, dim in zip(begins, dims)]
+        return in_blocks(expr, [it[:count] for it, count in zip(cuts, counts)])
+    return expr.broadcast(counts).slice(begins, dims) if blocks > 1 else expr
 
 
 # Dims.

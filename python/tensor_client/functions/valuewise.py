@@ -6,11 +6,12 @@ import builtins
 import itertools
 from typing import Any, Callable, Dict, NoReturn, Protocol, Tuple
 
-from ..expressions import WRAPPING, Expr
+from ..expressions import Expr
 from ..memory import INT64
 from ..methods import written_nowhere
+from ..operators import told
 from ..tensors import an_expr
-from ..values import as_bits, numpy, whole
+from ..values import WRAPPING, as_bits, numpy, whole
 from .common import as_dtype
 from .delegated import by_numpy, over_lines
 from .scans import cumprod, cumsum
@@ -35,13 +36,6 @@ ACCUMULATED = {"add": cumsum, "multiply": cumprod}
 LISTED: Dict[str, Callable[[int, int], int]] = {"maximum": builtins.max, "minimum": builtins.min}
 
 
-def told(function: Callable[..., Any], name: str, what: str, example: str, wanted: str) -> Any:
-    """A function with a name, and a docstring with an example."""
-    function.__name__ = function.__qualname__ = name
-    function.__doc__ = f"{what}\n\n    >>> run({name}({example})).values\n    {wanted}\n    "
-    return function
-
-
 class OfTwo(Protocol):
     """A function of each two values, with what it has itself."""
 
@@ -56,18 +50,18 @@ class OfTwo(Protocol):
     def reduceat(self, array: Any, indices: Any, axis: int = 0) -> Expr: ...
 
 
-def of_one(name: str, method: str, *text: str) -> Callable[..., Expr]:
+def of_one(name: str, method: str, what: str, example: str, wanted: str) -> Callable[..., Expr]:
     """A function of each value, by a method of expressions."""
 
     def function(x: Any, out: None = None) -> Any:
         written_nowhere(out)
         return getattr(an_expr(x), method)()
 
-    found: Callable[..., Expr] = told(function, name, *text)
+    found: Callable[..., Expr] = told(function, name, what, f"{name}({example})", wanted)
     return found
 
 
-def of_two(name: str, method: str, *text: str) -> OfTwo:
+def of_two(name: str, method: str, what: str, example: str, wanted: str) -> OfTwo:
     """A function of each two values, by a method of expressions. As numpy's have it has functions
     of its own: `outer`, of each value with each, `reduce`, which combines all along an axis,
     `accumulate`, up to each place of it, and `reduceat`, of its parts."""
@@ -98,7 +92,7 @@ def of_two(name: str, method: str, *text: str) -> OfTwo:
     def refused(*_: Any, **more: Any) -> NoReturn:
         raise TypeError("a tensor isn't written: x.at[i].add(v) is one with other values")
 
-    made = told(function, name, *text)
+    made = told(function, name, what, f"{name}({example})", wanted)
     made.outer, made.reduce, made.accumulate = outer, reduce, accumulate
     made.reduceat, made.at = reduceat, refused
     found: OfTwo = made

@@ -30,7 +30,7 @@ use Rattle.event_count.proofs.Closing.{card_there, is_lawful}
 use Rattle.event_count.proofs.Totals.{le_total, total_some}
 use Rattle.event_count.proofs.Words.{leads_top}
 
--- who acts is an actor
+-- an actor of a possible event is one of the actors
 actor_known : (workers actors rows : ℕ) (w : World) (e : Event) → HasSizes workers actors rows w
     → workers ≤ actors → Possible w e → actor_of e < actors
 actor_known workers actors rows w (Publish actor row) z le may =
@@ -78,7 +78,7 @@ events_of-rest n e events none_there = ⊎_elim
     (ne_eqb (actor_of e) n ne)) ∙ none_there)
     (cases_eq (actor_of e) n)
 
--- where those who are absent have done nothing, who has done something is present
+-- where the absent actors have done nothing, an actor that has done something is present
 all_present : (is_present : ℕ → Bool) (workers actors rows : ℕ) (first : World)
     (events : List Event) (last : World) → HasSizes workers actors rows first → workers ≤ actors
     → Runs first events last

@@ -150,7 +150,7 @@ module _ (k : RowSizes) (slots id : ℕ) (me : Sat) where
             → row_place (k.waiters + k.rows) row ≡ row_place (c.waiters + c.rows) row
         place_of k c row waiters rows = omega arith
 
-    -- the same where the place was found from the count's own sizes
+    -- a publish, where the place was found from the count's own sizes
     pub publish_keeps_at : (place : ℕ) → place ≡ row_place (k.waiters + k.rows) row
         → Allows (ShowsWorld k) slots id me place (λ n. (n + 1) % 2 ^ 64)
         (publishes (step slots place 1 0 none) me)

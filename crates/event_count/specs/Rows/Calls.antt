@@ -1,4 +1,4 @@
--- What the calls on rows and on the stop word answer.
+-- What the calls on rows and on the stop word return.
 use Rattle.std.specs.Prelude.{◌≡◌, ◌≢◌, ℕ, ◌<◌, ◌↔◌, Bool, false, IsTrue}
 use Rattle.event_count.specs.declared.view.Card.{Card}
 use Rattle.event_count.specs.declared.answers.PassAll.{PassAll}
@@ -6,16 +6,16 @@ use Rattle.event_count.specs.declared.answers.PassAll.TheVariants as pass_all
 use Rattle.event_count.specs.Kinds.{HasPassed}
 use Rattle.event_count.specs.Rows.Gains.{passing, passing_flag, stopping}
 
--- a look at the stop word, which passes the flag exactly where it answers so
+-- a look at the stop word, which passes the flag exactly if it returns true
 abbrev pub IsPassFlag : Card → Bool → Card → Type 0
 IsPassFlag c passed d =
     (found : ℕ) × (IsTrue passed ↔ (found ≡ 0)) × (d ≡ passing_flag c found)
 
--- a stop, which is the seat's own exactly where it answers so
+-- a stop of the count, which is the seat's own exactly if it returns true
 abbrev pub IsStop : Card → Bool → Card → Type 0
 IsStop c stopped d = (found : ℕ) × (IsTrue stopped ↔ (found ≡ 0)) × (d ≡ stopping c found)
 
--- the same seat after looks at rows and at the stop word
+-- d is the card c after looks at rows and at the stop word
 pub record IsAfterPasses (c d : Card) : Type 0 where
   pub waiters : d.waiters ≡ c.waiters
   pub rows : d.rows ≡ c.rows
@@ -35,7 +35,8 @@ pub record FindsJobs (rows : ℕ) (c : Card) (row : ℕ) (d before : Card) : Typ
   pub jobs : d.found.word ≢ 0
   pub looked : d ≡ passing before row d.found.word
 
--- looks at the stop word and at the rows, up to the first that shows a stop or jobs
+-- what `pass_all` returns after its looks at the stop word and at the rows, up to the first that
+-- shows a stop or jobs
 abbrev pub IsPassAll : ℕ → Card → PassAll → Card → Type 0
 IsPassAll rows c pass_all.Passed d = HasPassed rows d
 IsPassAll rows c pass_all.Stopped d = IsPassFlag c false d

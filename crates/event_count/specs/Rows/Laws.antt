@@ -1,5 +1,5 @@
--- What holds in every state of a count with rows.
--- No row with jobs is forgotten, and nobody sleeps on after a stop of which all were notified.
+-- The laws of a count with rows: what holds in every state of its table. No row with jobs is
+-- forgotten, and nobody sleeps on after a stop of which all were notified.
 use Rattle.std.specs.Prelude.{◌≡◌, ℕ, ◌+◌, ◌<◌, Bool, true, false, List, [], ◌∷◌, ◌++◌, slice_index}
 use mathlib.Core.Option.{some}
 use lib.ListN.{get_elem?}
@@ -20,12 +20,12 @@ use Rattle.event_count.specs.Tickets.{tickets_over}
 use Rattle.event_count.specs.Shown.{CountState, Shows}
 use Rattle.event_count.specs.Laws.{Rule}
 
--- how many jobs a row has, by its word
+-- the length of a row, by its word
 abbrev pub length_in : RowSizes → CountState → ℕ → ℕ
 length_in k s row = slice_index s.words (row_place (k.waiters + k.rows) row)
 
--- While the stop word is 0, each row whose length is above 0 has support by one of a set. It may be
--- any set that has a waiter, and outside of which the seats have done nothing.
+-- While the stop word is 0, each row whose length is above 0 has support by a member of a set. It
+-- may be any set that has a waiter, if the seats outside it have done nothing.
 abbrev pub RowsStayAwake : Type 0
 RowsStayAwake =
     (k : RowSizes) (s : CountState) (history : List Event) (w : World) → Shows k s history w
@@ -35,26 +35,26 @@ RowsStayAwake =
     → (row : ℕ) → row < k.rows → 0 < length_in k s row
     → (support : Support w row) × IsByPresent is_present support
 
--- once all were notified of a stop, the state word names nobody, and each sleeper is owed its token
--- or has it
+-- once all were notified of a stop, the stack in the state word is empty, and each sleeper is owed
+-- its token or has it
 abbrev pub StopWakesAll : Type 0
 StopWakesAll =
     (k : RowSizes) (s : CountState) (history : List Event) (w : World) → Shows k s history w
     → w.stop ≡ 2 → ((shown_fields s.words).top ≡ nobody) × IsWoken w
 
--- and so it is from a notification of all on that comes after a stop
+-- if a notification of all comes after a stop in the history, all were notified of the stop
 abbrev pub NotifiedStopsShow : Type 0
 NotifiedStopsShow =
     (k : RowSizes) (s : CountState) (history : List Event) (w : World) → Shows k s history w
     → (before between after : List Event) (stopper notifier : ℕ)
     → history ≡ before ++ Stop stopper ∷ between ++ NotifyAll notifier ∷ after → w.stop ≡ 2
 
--- a row's word is the number of its tickets
+-- a row's length word is the number of its tickets
 abbrev pub LengthsAreTickets : Rule → Type 0
 LengthsAreTickets holds = (k : RowSizes) (s : CountState) → holds k s
     → (row : ℕ) → row < k.rows → length_in k s row ≡ tickets_over s.views row
 
--- so whoever has a ticket knows that its row has a job
+-- the row of a ticket in a view has a length above 0
 abbrev pub TicketsShowJobs : Rule → Type 0
 TicketsShowJobs holds = (k : RowSizes) (s : CountState) → holds k s
     → (id : ℕ) (v : View) → get_elem? s.views id ≡ some v → (row : ℕ) → 0 < times row v.tickets

@@ -1,4 +1,4 @@
--- What contracts say of counts with rows, of tickets and of credits.
+-- The parts of counts with rows, of tickets and of credits that contracts name.
 use Rattle.std.specs.Prelude.{◌≡◌, ℕ, false}
 use Rattle.atomic_table.specs.Seated.{TableId}
 use Rattle.event_count.specs.declared.seat.Seat.{Seat}
@@ -13,25 +13,27 @@ pub use Rattle.event_count.specs.Seats.{row_sizes_of, IsSeatOf}
 abbrev pub row_of : Ticket → ℕ
 row_of ticket = ticket.row
 
--- which count's ticket it is, or credit
+-- the count to which the ticket belongs
 abbrev pub ticket_id : Ticket → TableId
 ticket_id ticket = ticket.badge.table_id
 
+-- the count to which the credit belongs
 abbrev pub credit_id : Credit → TableId
 credit_id credit = credit.badge.table_id
 
--- the seat has published nothing, and not stopped the count, since it last notified
+-- a silent seat: it has published nothing, and not stopped the count, since it last notified
 abbrev pub IsSilent : Seat → Type 0
 IsSilent seat = (card_of seat).announcing ≡ false
 
 module _ {K A : Type 0} {G : Ghosts K} where
-  -- which count it is
+  -- what distinguishes this count from others
   abbrev pub row_count_id : Count K A G → TableId
   row_count_id count = count_id count
 
-  -- the ticket is of a job that was published there, and the credit of one of its seats
+  -- the ticket is for a job that was published at this count
   abbrev pub IsTicketAt : Count K A G → Ticket → Type 0
   IsTicketAt count ticket = ticket_id ticket ≡ count_id count
 
+  -- the credit was lent by a seat of this count
   abbrev pub IsCreditAt : Count K A G → Credit → Type 0
   IsCreditAt count credit = credit_id credit ≡ count_id count

@@ -1,5 +1,5 @@
--- What each step on a row or on the stop word adds to the history that the table shows. One on the
--- bank adds nothing.
+-- What each step on a row or on the stop word adds to the history that the table shows. A step on
+-- the bank adds nothing.
 use Rattle.std.specs.Prelude.{◌≡◌, ℕ, ◌+◌, ◌-◌, ◌<◌, ◌≤◌, ◌%◌, ◌^◌, ◌==◌, false, [], ◌∷◌}
 use mathlib.Core.Option.{none}
 use prog.Atomic.{either}
@@ -15,7 +15,8 @@ use Rattle.event_count.specs.Steps.{AddsWith, AddsEvents, Loads}
 use Rattle.event_count.specs.Rows.Plays.{publishes, redeems, passes, measures, passes_flag, stops}
 use Rattle.event_count.specs.Rows.Plays.{weighs, deposits, withdraws}
 
--- each step on a row, the stop word or the bank of a seat whose card is c, where it may be taken
+-- the steps on a row, the stop word or the bank add their events, by a seat whose card is c and
+-- that may take them
 pub record RowStepsOf (k : RowSizes) (slots : ℕ) (me : Sat) (c : Card) : Type 0 where
   pub publish : (row : ℕ) → row < k.rows → c.phase ≡ Running → c.owing ≡ []
       → c.announcing ≡ false → 0 < c.credits
@@ -34,13 +35,13 @@ pub record RowStepsOf (k : RowSizes) (slots : ℕ) (me : Sat) (c : Card) : Type 
       deposits
   pub withdraw : AddsEvents k slots me (step slots BANK 0 0 none) (λ _. 0) withdraws
 
--- the same of a seat that has taken in a ticket of the row
+-- a take adds its event, by a seat that has taken in a ticket of the row
 pub record TicketStepsOf (k : RowSizes) (slots : ℕ) (me : Sat) (c : Card) (row : ℕ) : Type 0 where
   pub take : c.phase ≡ Running → c.owing ≡ []
       → AddsEvents k slots me (step slots (row_place (k.waiters + k.rows) row) 1 0 none)
       (λ n. (n + (2 ^ 64 - 1)) % 2 ^ 64) redeems
 
--- the same of every seat in use
+-- each step on a row, the stop word or the bank adds its events, by every seat in use
 pub record RowStepsAddTheirEvents : Type 0 where
   pub seats : (k : RowSizes) (slots : ℕ) (me : Sat) → me.0 ≡ only (card_in me.0)
       → RowStepsOf k slots me (card_in me.0)

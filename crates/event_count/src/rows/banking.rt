@@ -1,4 +1,6 @@
-//! Credits flow back: who has many puts some into the bank, and who has none takes out what is there.
+//! Credits flow back: a seat with many credits puts some into the bank, and a seat without credits
+//! takes all that are there. `specs/Tickets.antt` counts the bank's credits with those of the
+//! seats.
 ghost use Rattle.std.specs.Prelude.{◌≡◌, ◌≤◌, None};
 
 use crate::count::Count;
@@ -12,7 +14,7 @@ impl<A: Allocator> Count<Rowed, A> {
     ghost use Rattle.event_count.specs.Seats.{card_of, looked_of, IsSeatOf};
     ghost use Rattle.event_count.specs.Rows.Gains.{depositing, withdrawing};
 
-    /// So many credits of the seat are in the bank, for any seat to withdraw.
+    /// Puts the given number of the seat's credits into the bank, for any seat to withdraw.
     pub fn deposit(&self, seat: &mut Seat, credits: u32)
         requires of { IsSeatOf self.now seat.old }
         requires credits { credits ≤ (card_of seat.old).credits }
@@ -26,7 +28,7 @@ impl<A: Allocator> Count<Rowed, A> {
         seat.credits -= credits;
     }
 
-    /// How many credits were in the bank, all of which the seat has now.
+    /// Takes all credits out of the bank for the seat, and returns how many they were.
     pub fn withdraw(&self, seat: &mut Seat) -> u32
         requires of { IsSeatOf self.now seat.old }
         ensures of { IsSeatOf self.now seat.new }

@@ -1,4 +1,5 @@
-//! What a waiter looks at between its prewait and its commit, rows and the stop word, and the stop.
+//! The looks of a waiter between its prewait and its commit, at rows and at the stop word; and the
+//! stop. A commit at a count with rows requires what these calls promise (`HasPassed`).
 ghost use Rattle.std.specs.Prelude.{◌≡◌, ◌<◌, [], true, false, None};
 ghost use Rattle.event_word.specs.declared.phase.Phase.TheVariants.{Running, Pre};
 
@@ -16,7 +17,8 @@ impl<A: Allocator> Count<Rowed, A> {
     ghost use Rattle.event_count.specs.Rows.Gains.{passing, measuring};
     ghost use Rattle.event_count.specs.Rows.Calls.{IsPassFlag, IsStop, IsAfterPasses, IsPassAll};
 
-    /// How many jobs the row has, by a look that passes nothing: who waits passes the row.
+    /// Returns how many jobs the row has. This look passes nothing: a seat that wants to wait calls
+    /// `pass`.
     pub fn length(&self, seat: &mut Seat, row: u16) -> u64
         requires of { IsSeatOf self.now seat.old }
         requires row { row < (row_sizes_of self.now).rows }
@@ -29,7 +31,8 @@ impl<A: Allocator> Count<Rowed, A> {
         self.table.shared.load::<Measures>(&mut seat.seat, word)
     }
 
-    /// How many jobs a pre-waiter finds in the row. Where there are none, it has passed the row.
+    /// Returns how many jobs a pre-waiter finds in the row. If there are none, it has passed the
+    /// row.
     pub fn pass(&self, seat: &mut Seat, row: u16) -> u64
         requires of { IsSeatOf self.now seat.old }
         requires row { row < (row_sizes_of self.now).rows }
@@ -44,7 +47,8 @@ impl<A: Allocator> Count<Rowed, A> {
         self.table.shared.load::<Passes>(&mut seat.seat, place)
     }
 
-    /// Whether a pre-waiter finds that nobody has stopped the count. It has passed the flag then.
+    /// Returns whether a pre-waiter finds that nobody has stopped the count. If so, it has passed
+    /// the flag.
     pub fn pass_flag(&self, seat: &mut Seat) -> bool
         requires of { IsSeatOf self.now seat.old }
         requires pre { (card_of seat.old).phase ≡ Pre }
@@ -58,7 +62,7 @@ impl<A: Allocator> Count<Rowed, A> {
     }
 
     /// Looks at the stop word and then at each row, up to the first that shows a stop or jobs. The
-    /// seat may commit where it has passed all.
+    /// seat may commit if it has passed all of them.
     pub fn pass_all(&self, seat: &mut Seat) -> PassAll
         requires of { IsSeatOf self.now seat.old }
         requires pre { (card_of seat.old).phase ≡ Pre }
@@ -79,8 +83,8 @@ impl<A: Allocator> Count<Rowed, A> {
         PassAll::Passed
     }
 
-    /// Stops the count, so that nobody passes the flag any more, and answers whether it was this
-    /// call that did. The seat is then to notify all.
+    /// Stops the count: from now on nobody passes the flag. Returns whether this call stopped it.
+    /// If so, the seat has to notify all afterwards.
     pub fn stop(&self, seat: &mut Seat) -> bool
         requires of { IsSeatOf self.now seat.old }
         requires running { (card_of seat.old).phase ≡ Running }

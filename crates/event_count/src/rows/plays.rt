@@ -1,8 +1,9 @@
-//! What the steps on rows, the stop word and the bank tell, and how tickets and credits move.
+//! The plays of the steps on rows, the stop word and the bank, and how tickets and credits are
+//! split off and joined. `specs/Rows/Plays.antt` defines them.
 use crate::view::View;
 use atomic_table::{Join, Play, Split};
 
-/// The row has a job more, and the seat its ticket.
+/// The play of a publish: the row has one job more, and the seat has its ticket.
 pub struct Publishes;
 
 impl Play<(), View> for Publishes {
@@ -11,7 +12,7 @@ impl Play<(), View> for Publishes {
     ghost then = { publishes };
 }
 
-/// The row has a job less, and the seat no ticket.
+/// The play of a take: the row has one job less, and the seat has no ticket.
 pub struct Redeems;
 
 impl Play<(), View> for Redeems {
@@ -20,7 +21,7 @@ impl Play<(), View> for Redeems {
     ghost then = { redeems };
 }
 
-/// The row is passed where it has no jobs.
+/// The play of a load of a row's length, which passes the row if it has no jobs.
 pub struct Passes;
 
 impl Play<(), View> for Passes {
@@ -29,7 +30,7 @@ impl Play<(), View> for Passes {
     ghost then = { passes };
 }
 
-/// The flag is passed where nobody has stopped.
+/// The play of a load of the stop word, which passes the flag if nobody has stopped.
 pub struct PassesFlag;
 
 impl Play<(), View> for PassesFlag {
@@ -38,7 +39,7 @@ impl Play<(), View> for PassesFlag {
     ghost then = { passes_flag };
 }
 
-/// The count is stopped where nobody had.
+/// The play of a stop, which stops the count if nobody had.
 pub struct Stops;
 
 impl Play<(), View> for Stops {
@@ -47,7 +48,7 @@ impl Play<(), View> for Stops {
     ghost then = { stops };
 }
 
-/// A row's length is looked at, and nothing is passed.
+/// The play of a load of a row's length that passes nothing.
 pub struct Measures;
 
 impl Play<(), View> for Measures {
@@ -56,7 +57,8 @@ impl Play<(), View> for Measures {
     ghost then = { measures };
 }
 
-/// Nothing changes.
+/// The play of a load that changes nothing, but says that the seat's credits are within their
+/// limit.
 pub struct Weighs;
 
 impl Play<(), View> for Weighs {
@@ -65,7 +67,7 @@ impl Play<(), View> for Weighs {
     ghost then = { weighs };
 }
 
-/// Credits of the seat are in the bank.
+/// The play of putting credits of the seat into the bank.
 pub struct Deposits;
 
 impl Play<(), View> for Deposits {
@@ -74,7 +76,7 @@ impl Play<(), View> for Deposits {
     ghost then = { deposits };
 }
 
-/// The seat has what was in the bank.
+/// The play of taking all credits out of the bank.
 pub struct Withdraws;
 
 impl Play<(), View> for Withdraws {
@@ -83,7 +85,7 @@ impl Play<(), View> for Withdraws {
     ghost then = { withdraws };
 }
 
-/// A ticket is cut off.
+/// Splits a ticket off a seat.
 pub struct CutsTicket;
 
 impl Split<View> for CutsTicket {
@@ -94,7 +96,7 @@ impl Split<View> for CutsTicket {
     ghost right = { cut };
 }
 
-/// A credit is cut off.
+/// Splits a credit off a seat.
 pub struct CutsCredit;
 
 impl Split<View> for CutsCredit {
@@ -106,7 +108,7 @@ impl Split<View> for CutsCredit {
     ghost right = { λ _. credit };
 }
 
-/// A ticket is taken in.
+/// Joins a ticket to a seat.
 pub struct TakesTicket;
 
 impl Join<View> for TakesTicket {
@@ -118,7 +120,7 @@ impl Join<View> for TakesTicket {
     ghost spent = { spent };
 }
 
-/// A credit is taken in.
+/// Joins a credit to a seat.
 pub struct TakesCredit;
 
 impl Join<View> for TakesCredit {

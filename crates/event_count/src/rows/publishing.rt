@@ -1,4 +1,5 @@
-//! Jobs come and go: a publish takes a credit and gives a ticket, and a take the other way round.
+//! Jobs come and go: a publish turns a credit into a ticket, and a take turns a ticket into a
+//! credit. `specs/Tickets.antt` counts both, and waking_rows lays a ticket beside each of its jobs.
 ghost use Rattle.std.specs.Prelude.{◌≡◌, ◌↔◌, ◌<◌, [], false, None, IfSome, IfNone};
 ghost use Rattle.event_word.specs.declared.phase.Phase.TheVariants.{Running};
 
@@ -18,8 +19,9 @@ impl<A: Allocator> Count<Rowed, A> {
     ghost use Rattle.event_count.specs.Rows.Seats.{row_of, IsTicketAt};
     ghost use Rattle.event_count.specs.Rows.Seats.{IsCreditAt};
 
-    /// The row has one job more, whose ticket this is, and the seat is to notify: it makes the job
-    /// ready to be taken, and then notifies. None: the seat has no credit, and nothing has changed.
+    /// Publishes a job: the row has one job more, and the returned ticket is that job's. Afterwards
+    /// the seat lays the job where others may take it, and then has to notify. Returns none, and
+    /// changes nothing, if the seat has no credit.
     pub fn publish(&self, seat: &mut Seat, row: u16) -> Option<Ticket>
         requires of { IsSeatOf self.now seat.old }
         requires row { row < (row_sizes_of self.now).rows }
@@ -41,7 +43,7 @@ impl<A: Allocator> Count<Rowed, A> {
         Some(self.publish_one(seat, row))
     }
 
-    /// The same of a seat that has a credit.
+    /// Publishes a job by a seat that has a credit, and returns its ticket.
     fn publish_one(&self, seat: &mut Seat, row: u16) -> Ticket
         requires of { IsSeatOf self.now seat.old }
         requires row { row < (row_sizes_of self.now).rows }
@@ -67,7 +69,8 @@ impl<A: Allocator> Count<Rowed, A> {
         }
     }
 
-    /// The ticket's row has one job less, and the seat one credit more. The ticket is used up.
+    /// Takes a job off the ticket's row: the row has one job less, and the seat one credit more.
+    /// Uses the ticket up.
     pub fn take(&self, seat: &mut Seat, ticket: Ticket)
         requires of { IsSeatOf self.now seat.old }
         requires ours { IsTicketAt self.now ticket }
@@ -86,7 +89,7 @@ impl<A: Allocator> Count<Rowed, A> {
         seat.credits += 1;
     }
 
-    /// A credit of the seat, for another seat to accept. None: it has no credit.
+    /// Takes a credit off the seat, for another seat to accept. None if the seat has no credit.
     pub fn lend(&self, seat: &mut Seat) -> Option<Credit>
         requires of { IsSeatOf self.now seat.old }
         ensures of { IsSeatOf self.now seat.new }
@@ -107,7 +110,7 @@ impl<A: Allocator> Count<Rowed, A> {
         })
     }
 
-    /// The seat has a credit more, that of another.
+    /// Gives the seat a credit that another seat lent.
     pub fn accept(&self, seat: &mut Seat, credit: Credit)
         requires of { IsSeatOf self.now seat.old }
         requires ours { IsCreditAt self.now credit }
@@ -118,7 +121,7 @@ impl<A: Allocator> Count<Rowed, A> {
         let Credit { badge } = credit;
         let shared = &self.table.shared;
         shared.join_seat::<TakesCredit>(&mut seat.seat, badge.into_seat());
-        // It tells that the credits stay few.
+        // The play of this load says that the seat's credits stay within their limit.
         shared.load::<Weighs>(&mut seat.seat, STOP);
         seat.looked = None;
         seat.credits += 1;

@@ -1,5 +1,6 @@
-//! The seats that actors have popped and not unparked, in one list for all actors: a seat stands
-//! there at most once, so one place for each worker is enough.
+//! The seats that actors have popped and not unparked, in one list for all actors. A seat stands
+//! there at most once, so room for one entry a worker is enough. `specs/Debts.antt` has the list of
+//! each actor.
 
 ghost use Rattle.std.specs.Prelude.{◌≡◌, ◌+◌, ◌≤◌, ◌==◌, ◌++◌, length, map, position, slice_get};
 ghost use Rattle.std.specs.Prelude.{vec_len, vec_capacity};
@@ -14,14 +15,14 @@ pub(crate) struct Debt {
     pub(crate) seat: u16,
 }
 
-/// Where the first seat stands that the actor owes.
+/// Returns the place of the first seat that the actor owes.
 pub(crate) fn first_owed(debts: &[Debt], actor: u32) -> Option<usize>
     ensures { result ≡ position (λ d. d.actor == actor) debts.now }
 {
     debts.iter().position(|debt| debt.actor == actor)
 }
 
-/// The seat at this place among those that the actor owes.
+/// Returns the seat at `place` among the seats that the actor owes.
 pub(crate) fn nth_owed(debts: &[Debt], actor: u32, place: usize) -> Option<u16>
     ensures { result ≡ slice_get (seats_owed actor debts.now) place }
 {
@@ -37,7 +38,7 @@ pub(crate) fn nth_owed(debts: &[Debt], actor: u32, place: usize) -> Option<u16>
     None
 }
 
-/// The actor owes these seats too, the last ones first to be unparked last.
+/// Adds the seats to those that the actor owes. It unparks them in the order of the list.
 pub(crate) fn owe_all<A: Allocator>(debts: &mut Vec<Debt, A>, actor: u32, seats: &[u16])
     requires { vec_len debts.old + length seats.now ≤ vec_capacity debts.old }
     ensures items { debts.new.items ≡ debts.old.items ++ map (debt actor) seats.now }

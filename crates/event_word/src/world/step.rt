@@ -1,4 +1,5 @@
-//! The events, one function each.
+//! The events, one function each. Each function is proved to be its case of `Possible` and `effect`
+//! (`specs/Step.antt`), so a change here is a change there.
 
 ghost use Rattle.std.specs.Prelude.{◌≡◌, false, ◌<◌, ◌↔◌, ◌==◌, IsTrue, length, position};
 ghost use Rattle.std.specs.Prelude.{replicate};
@@ -14,11 +15,11 @@ use crate::event::Event;
 use crate::phase::Phase;
 use std::alloc::Allocator;
 
-// How many jobs a row can count.
+// The most jobs of a row.
 const ROW_LIMIT: u64 = 1 << 20;
 
 impl<A: Allocator> World<A> {
-    /// Takes a step. False: the event isn't possible now, and nothing changed.
+    /// Takes the event. Returns false if the event isn't possible now; then nothing changes.
     pub fn step(&mut self, event: Event) -> bool
         ensures step { IsStep self.old event result self.new }
         ensures sizes { SameSizes self.old self.new }
@@ -26,7 +27,7 @@ impl<A: Allocator> World<A> {
         self.take_step(event)
     }
 
-    /// Takes the events in turn, and answers how many were possible.
+    /// Takes the events in turn, and returns how many of them were possible.
     pub fn play(&mut self, events: &[Event]) -> u64
         ensures plays { Plays self.old events.now result self.new }
         ensures sizes { SameSizes self.old self.new }
@@ -58,7 +59,7 @@ impl<A: Allocator> World<A> {
         }
     }
 
-    /// Whether the actor owes nothing, and runs if it is a worker.
+    /// Returns whether the actor owes nothing, and runs if it is a worker.
     fn is_free(&self, actor: u32) -> bool
         ensures { IsTrue result ↔ IsFree self.now actor }
     {
@@ -72,14 +73,14 @@ impl<A: Allocator> World<A> {
         first_owed(&self.owed, actor).is_none()
     }
 
-    /// Whether it is also not to notify.
+    /// Returns whether the actor is free and isn't to notify.
     fn is_quiet(&self, actor: u32) -> bool
         ensures { IsTrue result ↔ IsQuiet self.now actor }
     {
         self.is_free(actor) && !self.announcing[actor as usize]
     }
 
-    /// Whether the seat is a worker's that is quiet.
+    /// Returns whether the seat is a worker that is quiet.
     fn is_quiet_seat(&self, seat: u16) -> bool
         ensures { IsTrue result ↔ (seat < length self.now.phases) × IsQuiet self.now seat }
     {
@@ -148,7 +149,7 @@ impl<A: Allocator> World<A> {
         if !is_in(&self.phases, place, Phase::Pre) {
             return false;
         }
-        // Each pre-waiter but this one can keep its signal.
+        // Every other pre-waiter can keep its signal.
         self.signals = self.signals.min(self.pre.len() as u64 - 1);
         self.phases[place] = Phase::Running;
         take_out(&mut self.pre, seat);
@@ -268,14 +269,15 @@ impl<A: Allocator> World<A> {
     }
 }
 
-/// Whether the seat at this place is in the phase. A place that no worker has counts as ended.
+/// Returns whether the seat at `place` is in the phase. A place past the last worker counts as
+/// ended.
 fn is_in(phases: &[Phase], place: usize, phase: Phase) -> bool
     ensures { IsTrue result ↔ (slice_index_or phases.now place Phase.Ended ≡ phase) }
 {
     phases.get(place).copied().unwrap_or(Phase::Ended) == phase
 }
 
-/// Whether the actor at this place runs, if it is a worker.
+/// Returns whether the actor at `place` runs, if it is a worker. True for a notifier.
 fn runs_if_worker(phases: &[Phase], place: usize) -> bool
     ensures { IsTrue result
         ↔ (place < length phases.now
@@ -284,28 +286,28 @@ fn runs_if_worker(phases: &[Phase], place: usize) -> bool
     place >= phases.len() || is_in(phases, place, Phase::Running)
 }
 
-/// Whether each of the list is true.
+/// Returns whether every element of the list is true.
 fn are_all_true(list: &[bool]) -> bool
     ensures { IsTrue result ↔ AllPass (λ passed. passed) list.now }
 {
     list.iter().all(|passed| *passed)
 }
 
-/// Makes each of the list false.
+/// Sets every element of the list to false.
 fn clear<A: Allocator>(list: &mut Vec<bool, A>)
     ensures { list.new.items ≡ replicate (length list.old.items) false }
 {
     list.fill(false);
 }
 
-/// Where the seat stands in the list.
+/// Returns the first place at which the seat stands in the list.
 fn place_of(list: &[u16], seat: u16) -> Option<usize>
     ensures { result ≡ position (λ other. other == seat) list.now }
 {
     list.iter().position(|other| *other == seat)
 }
 
-/// Takes the seat out of the list.
+/// Removes the first occurrence of the seat from the list.
 fn take_out<A: Allocator>(list: &mut Vec<u16, A>, seat: u16)
     ensures items { list.new.items ≡ without seat list.old.items }
     ensures capacity { vec_capacity list.new ≡ vec_capacity list.old }

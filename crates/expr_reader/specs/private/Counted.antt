@@ -1,4 +1,4 @@
--- How many members the objects of a value have, at any depth.
+-- The number of members of all objects in a value, at any depth.
 use Rattle.std.specs.Prelude.{ℕ, suc, ◌+◌}
 use Rattle.serde_json.specs.Data.{Data, null, boolean, number, string, array, object, Items}
 use Rattle.serde_json.specs.Data.{no_items, item, Members, no_members, member}

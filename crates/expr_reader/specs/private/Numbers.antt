@@ -1,4 +1,4 @@
--- A map from names to numbers.
+-- Maps from names to numbers.
 use Rattle.std.specs.Prelude.{ℕ, List, Option}
 use Rattle.std.specs.Borrow.{Bor}
 use Rattle.std.specs.BTreeMap.{BTreeMap, get_by}

@@ -1,4 +1,4 @@
--- What the code has found, beside what the data says.
+-- What the code has found, beside the definitions.
 use Rattle.std.specs.Prelude.{◌≡◌, ℕ, List, length}
 use Rattle.serde_json.specs.View.{view}
 use Rattle.tensor_ops.specs.Bounds.{Bounds}
@@ -11,6 +11,7 @@ use Rattle.expr_reader.specs.Tensors.{Named, number_of}
 use Rattle.expr_reader.specs.declared.fields.Fields.{Fields}
 use Rattle.expr_reader.specs.declared.named.NamedInputs.{NamedInputs}
 
+-- `Fields` of the code, as data
 abbrev pub fields_under : Fields → data_of.Fields
 fields_under f =
     record {
@@ -21,8 +22,8 @@ fields_under f =
       expr = view f.expr.now;
     }
 
--- the inputs and the tensors of the bindings are the tensors, within bounds, and each name has its
--- number
+-- the inputs and bindings of the code are the named tensors, within bounds, and each name has its
+-- number in the code
 pub record IsNamed (found : NamedInputs) (bounds : Bounds) (n : Named) : Type 0 where
   pub limit : found.inputs.bounds ≡ bounds
   pub possible : IsPossible bounds

@@ -1,4 +1,4 @@
--- The versions and operations of the code, as profiles and operations.
+-- The versions and operations of the code, as profiles and operations of the table.
 use Rattle.std.specs.Prelude.{List, [], ◌∷◌}
 use Rattle.tensor_ops.specs.Term as term
 use Rattle.tensor_ops.specs.Term.{each, constant, movement, pad, reduce, along, pairwise}
@@ -24,11 +24,13 @@ use Rattle.expr_reader.specs.declared.operation.Binary.{Binary}
 use Rattle.expr_reader.specs.declared.operation.Binary.TheVariants.{Pairwise, Concat, Contract}
 use Rattle.expr_reader.specs.declared.operation.Binary.TheVariants.{Convolve, Take}
 
+-- a version of the code, as its profile
 abbrev pub profile_under : Version → Profile
 profile_under version.One = version_1
 profile_under version.Two = version_2
 profile_under version.Three = version_3
 
+-- `Versions` of the code, as the profiles by number
 abbrev pub versions_under : Versions → profile.Versions
 versions_under OfTexts = profile_of
 versions_under OfFrames = frame_profile_of
@@ -48,7 +50,7 @@ forms_of Pad = pairs ∷ []
 forms_of (Reduce r) = sizes ∷ []
 forms_of (Along o) = size ∷ []
 
--- what its arguments make
+-- the operation of a term that arguments make, on one operand
 abbrev pub unary_of : (u : Unary) → Arguments (forms_of u) → term.Unary
 unary_of (Each o) none = each o
 unary_of Constant a = constant a.0
@@ -63,7 +65,7 @@ unary_of Pad a = pad a.0
 unary_of (Reduce r) a = reduce r a.0
 unary_of (Along o) a = along o a.0
 
--- the same of an operation on two operands
+-- the forms of the arguments of an operation on two operands
 abbrev pub forms_of_two : Binary → List Form
 forms_of_two (Pairwise o) = []
 forms_of_two Concat = size ∷ []
@@ -71,6 +73,7 @@ forms_of_two Contract = pairs ∷ []
 forms_of_two Convolve = sizes ∷ []
 forms_of_two Take = size ∷ []
 
+-- the operation of a term that arguments make, on two operands
 abbrev pub binary_of : (b : Binary) → Arguments (forms_of_two b) → term.Binary
 binary_of (Pairwise o) none = pairwise o
 binary_of Concat a = concat a.0
@@ -78,6 +81,7 @@ binary_of Contract a = contract a.0
 binary_of Convolve a = convolve a.0
 binary_of Take a = taking a.0
 
+-- an operation of the code, as one of the table
 abbrev pub operation_under : Operation → table.Operation
 operation_under (One u) = one (forms_of u) (unary_of u)
 operation_under (Two b) = two (forms_of_two b) (binary_of b)

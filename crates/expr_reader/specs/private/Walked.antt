@@ -1,4 +1,4 @@
--- What the code has found of a tree, beside what the walk says, for the reader's private clauses.
+-- What the code has read of a tree, beside the walk of the definitions. Private clauses cite this.
 use Rattle.std.specs.Prelude.{◌≡◌, ◌⊎◌, ◌++◌, ℕ, Bool, false, List, length, IsTrue, Result, Ok, Err, MatchResult}
 use Rattle.serde_json.specs.Data.{Data, array, item}
 use Rattle.tensor_ops.specs.Contents.{Given}
@@ -17,29 +17,29 @@ use Rattle.expr_reader.specs.declared.fault.Fault.TheVariants.{NoMemory}
 use Rattle.expr_reader.specs.declared.named.NamedInputs.{NamedInputs}
 use Rattle.expr_reader.specs.declared.node.Subtree.{Subtree}
 
--- a tree that was read, as its term
+-- a tree that the code read, as its term
 abbrev pub tree_under : Subtree → Tree
 tree_under tree = record { term = term_of tree.expr; end = tree.end }
 
--- its inputs are among these, and over them it has its dims
+-- a tree uses only the given tensors, and its dims are its result dims over them
 pub record IsShaped (inputs : Given) (tree : Subtree) : Type 0 where
   pub inputs_known : IsTrue (has_inputs (term_of tree.expr) (length inputs.tensors))
   pub dims_known : dims_of inputs.bounds (term_of tree.expr) inputs.tensors ≡ Ok tree.dims
 
--- the tree that the walk says, or its fault and the way to it, or want of memory
+-- the code returns the tree that the walk says, or its fault and the way to it, or `NoMemory`
 abbrev pub IsFound : Given → Result Tree Located → List ℕ → Result Subtree Fault → Type 0
 IsFound inputs says indices found =
     MatchResult found (λ tree. (says ≡ Ok (tree_under tree)) × IsShaped inputs tree)
     (λ fault. (fault ≡ NoMemory)
     ⊎ (says ≡ Err (record { fault = fault; place = way_of indices })))
 
--- whether a node gives a tensor a name
+-- whether a node is a `let`
 abbrev pub is_binding : Profile → Data → Bool
 is_binding profile (array (item head rest)) = is_let profile head
 is_binding profile d = false
 
--- an expression that was read where names stood for tensors: its bindings are behind those that were
--- there, and its tree is over the tensors of all
+-- an expression that the code read with `old` names: its bindings are appended to the old ones, and
+-- its tree is over the tensors of all
 pub record IsBehind (profile : Profile) (n : Named) (says : Result Expression Located)
     (old new : NamedInputs) (tree : Subtree) : Type 0 where
   pub found : Expression
@@ -53,7 +53,7 @@ pub record IsBehind (profile : Profile) (n : Named) (says : Result Expression Lo
     bounds = profile.bounds;
   }) tree
 
--- that expression, or its fault and the way to it, or want of memory
+-- the code returns the expression that is said, or its fault and the way to it, or `NoMemory`
 abbrev pub IsReadBehind : Profile → Named → Result Expression Located → NamedInputs → NamedInputs
     → List ℕ → Result Subtree Fault → Type 0
 IsReadBehind profile n says old new indices r =

@@ -1,5 +1,6 @@
--- Frames of answers on the way, for the private clauses of the server.
+-- The frame of an answer before it is written, for the private clauses of the server.
 use Rattle.std.specs.Prelude.{◌≡◌, ◌≢◌, ◌⊎◌, ℕ, ℤ, List, [], ◌++◌, length, Option, Some, None}
+use Rattle.std.specs.Prelude.{◌+◌, ◌/◌, MatchBool}
 use Rattle.std.specs.Cow.{cow_slice_items}
 use Rattle.std.specs.List.{flat_map}
 use Rattle.expr_reader.specs.Contents.{Contents}
@@ -13,16 +14,17 @@ use Rattle.tensor_runner.specs.declared.journal.AnyFault.TheVariants.{Request, L
 use Rattle.tensor_runner.specs.declared.journal.Entry.{Entry}
 use Rattle.tensor_runner.specs.declared.limits.LimitFault.{LimitFault}
 use Rattle.tensor_runner.specs.declared.limits.Limits.{Limits}
-use Rattle.frame_server.specs.Answer.{answer_bytes, IsAnswerTo}
-use Rattle.frame_server.specs.Frame.{number_bytes, value_bytes, frame_in}
-use Rattle.frame_server.specs.Limited.{limit_frame, request_in, IsFrameWithin}
+use Rattle.frame_server.specs.Answer.{answer_bytes, IsAnswerTo, IsShort}
+use Rattle.frame_server.specs.Frame.{number_bytes, value_bytes, frame_in, header_len, value_count}
+use Rattle.frame_server.specs.Limited.{limit_frame, request_in, is_longer, frame_read}
 use Rattle.frame_server.specs.declared.frame.AnswerFrame.{AnswerFrame}
 
--- the sizes of a frame and its header
+-- the bytes of a frame before its values: the two sizes and the header
 abbrev pub front_bytes : List ℕ → ℕ → List ℕ
 front_bytes header value_count =
     number_bytes (length header) ++ (number_bytes value_count ++ header)
 
+-- the values of the tensor, or none
 abbrev pub values_in : Option Contents → List ℤ
 values_in None = []
 values_in (Some t) = t.values
@@ -31,7 +33,12 @@ values_in (Some t) = t.values
 abbrev pub bytes_in : AnswerFrame → List ℕ
 bytes_in frame = cow_slice_items frame.front ++ flat_map value_bytes (values_in frame.tensor)
 
--- what is noted of a frame of so many bytes and of the frame that answers it
+-- the most writes of an answer's frame, if each takes all that it is given: one, and one for each
+-- 8,192 values that aren't joined to the bytes before them
+abbrev pub most_writes : AnswerFrame → ℕ
+most_writes frame = 1 + (length (values_in frame.tensor) + 8191) / 8192
+
+-- the journal's note on a frame of `bytes` bytes that this frame answers
 abbrev pub entry_of : ℕ → AnswerFrame → Entry
 entry_of bytes frame =
     record {
@@ -41,22 +48,30 @@ entry_of bytes frame =
       steps = frame.steps;
     }
 
--- the frame of a fault
+-- the bytes of the frame of a fault
 abbrev pub any_frame : AnyFault → List ℕ
 any_frame (Request f) = answer_bytes (fault f)
 any_frame (Limit f) = limit_frame f
 
--- the frame says this fault; where there is none, it is a tensor's
+-- the frame says this fault, or a tensor if there is no fault
 abbrev pub Says : List ℕ → Option AnyFault → Type 0
 Says bytes (Some f) = bytes ≡ any_frame f
 Says bytes None = (t : Contents) × (bytes ≡ answer_bytes (tensor t))
 
--- the frame that answers the bytes' under limits, whose fault and steps are told
+-- the frame that answers the frame of these bytes, which may be so long, or the frame of `NoMemory`
+abbrev pub IsFrameRead : Limits → List ℕ → List ℕ → Type 0
+IsFrameRead limits bytes answer =
+    (answer ≡ frame_read limits bytes)
+    ⊎ ((answer ≡ answer_bytes (fault NoMemory)) × IsShort (header_len bytes) (value_count bytes))
+
+-- the frame answers the frame of these bytes, which may be so long, and its fault and steps are
+-- those of the answer
 pub record IsFrameUnder (limits : Limits) (bytes : List ℕ) (frame : AnswerFrame) : Type 0 where
-  pub within : IsFrameWithin limits bytes (bytes_in frame)
+  pub within : IsFrameRead limits bytes (bytes_in frame)
   pub says : Says (bytes_in frame) frame.fault
   pub has : HasSteps (request_in (frame_in bytes)) frame.fault frame.steps
 
+-- the fault answers the frame of these bytes
 abbrev pub IsFaultOf : List ℕ → Fault → Type 0
 IsFaultOf bytes f = IsAnswerTo bytes (fault f)
 
@@ -65,18 +80,29 @@ pub record IsFaultFrame (f : Fault) (frame : AnswerFrame) : Type 0 where
   pub bytes : bytes_in frame ≡ answer_bytes (fault f)
   pub fault : frame.fault ≡ Some (Request f)
 
--- the frame of this fault, or of want of memory, but for a frame that is too long
+-- the frame says this fault, or it says `NoMemory` and the fault is not `TooLong`
 abbrev pub IsRefusal : Fault → AnswerFrame → Type 0
 IsRefusal f frame = IsFaultFrame f frame ⊎ (IsFaultFrame NoMemory frame × (f ≢ TooLong))
 
--- the frame of this tensor, or of want of memory
+-- the frame says this tensor, or it says `NoMemory`
 abbrev pub IsTensorFrame : Contents → AnswerFrame → Type 0
 IsTensorFrame t frame =
     ((bytes_in frame ≡ answer_bytes (tensor t)) × (frame.fault ≡ None))
     ⊎ IsFaultFrame NoMemory frame
 
--- the frame of a limit that a request is over, or else of what it asks for, or of want of memory
+-- the frame of the limit that a request is over; without one, the frame of the tensor that it asks
+-- for, or of `NoMemory`
 abbrev pub IsOwnFrame : Option LimitFault → Asked → AnswerFrame → Type 0
 IsOwnFrame None a frame = IsTensorFrame (asked_tensor a) frame
 IsOwnFrame (Some f) a frame =
     (bytes_in frame ≡ limit_frame f) × (frame.fault ≡ Some (Limit f))
+
+-- the frame says that a frame is longer than the limit of bytes, and has no steps
+pub record SaysTooLong (frame : AnswerFrame) : Type 0 where
+  pub says : IsFaultFrame TooLong frame
+  pub none : frame.steps ≡ None
+
+-- the frame answers the frame of these bytes under limits
+abbrev pub IsFrameFrom : Limits → List ℕ → AnswerFrame → Type 0
+IsFrameFrom limits bytes frame =
+    MatchBool (is_longer limits bytes) (SaysTooLong frame) (IsFrameUnder limits bytes frame)

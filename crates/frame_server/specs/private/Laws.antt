@@ -24,7 +24,7 @@ frame_len-append xs ys some =
     let v : value_count (xs ++ ys) ≡ value_count xs = value_count-append xs ys some in
     omega (arith, h, v)
 
--- bytes that begin with a whole frame are not the front of one
+-- bytes that begin with a whole frame are not a proper prefix of one
 whole_at_front : (frame more cut : List ℕ) → IsWhole frame → cut ≡ frame ++ more
     → ¬ IsUnfinished cut
 whole_at_front frame more cut whole is few =
@@ -53,7 +53,7 @@ same_front frame other more others whole too is =
     ∙ take_at other others (length frame) len in
     (same, append_cancel_left frame more others (is ∙ ap (λ (l : List ℕ). l ++ others) (sym same)))
 
--- bytes are parted in one way
+-- bytes are frames followed by a prefix of a frame in at most one way
 pub parts_in_one_way : (frames others : List (List ℕ)) (cut other : List ℕ)
     → concat frames ++ cut ≡ concat others ++ other → All IsWhole frames → All IsWhole others
     → IsUnfinished cut → IsUnfinished other → (frames ≡ others) × (cut ≡ other)

@@ -1,4 +1,4 @@
--- Bytes on the way from a client to a frame, for the private clauses of the server.
+-- Bytes that are taken from a client into a frame, for the private clauses of the server.
 use Rattle.std.specs.Prelude.{◌≡◌, ◌⊎◌, ◌<◌, ◌≤◌, ◌+◌, ◌*◌, ℕ, ℤ, List, [], ◌++◌, length}
 use Rattle.std.specs.Prelude.{take, drop, map}
 use Rattle.std.specs.Prelude.{Option}
@@ -19,14 +19,14 @@ use Rattle.frame_server.specs.declared.frame.WholeFrame.{WholeFrame}
 use Rattle.frame_server.specs.declared.frame.NextFrame.{NextFrame}
 use Rattle.frame_server.specs.declared.frame.NextFrame.TheVariants.{Whole, Passed}
 
--- so many bytes were taken
+-- `count` bytes were taken
 pub record TakesCount (count : ℕ) (before after : Option (List ℕ)) (h k : Option History)
     (old new : List ℕ) : Type 0 where
   pub bytes : List ℕ
   pub takes : Takes before after h k old new bytes
   pub counted : length bytes ≡ count
 
--- the values that bytes are
+-- the first `count` values that stand in bytes
 abbrev pub values_of : ℕ → List ℕ → List ℤ
 values_of count bytes = map value_of (first_chunks 8 count bytes)
 
@@ -38,17 +38,18 @@ pub record TakesValues (before after : Option (List ℕ)) (h k : Option History)
   pub counted : length bytes ≡ 8 * length values
   pub read : values ≡ values_of (length values) bytes
 
--- a read failed, by the numbers of failures before and after, or the client's bytes are at an end
+-- a read failed, as the numbers of failures before and after say, or the client's bytes are at an
+-- end
 abbrev pub IsCutOff : ℕ → ℕ → Option (List ℕ) → Type 0
 IsCutOff before after remaining =
     HasFailed before after ⊎ ((after ≡ before) × IsAtEnd remaining)
 
--- bytes that begin a frame say this of it
+-- the head is what the first 16 bytes of a frame say
 pub record IsHeadOf (bytes : List ℕ) (head : Head) : Type 0 where
   pub header : head.header_len ≡ header_len bytes
   pub values : head.value_count ≡ value_count bytes
 
--- what a frame's length is told by was taken
+-- the 16 bytes of a frame's head were taken
 pub record TakesHead (before after : Option (List ℕ)) (h k : Option History)
     (old new : List ℕ) (head : Head) : Type 0 where
   pub bytes : List ℕ
@@ -56,28 +57,28 @@ pub record TakesHead (before after : Option (List ℕ)) (h k : Option History)
   pub counted : length bytes ≡ 16
   pub told : IsHeadOf bytes head
 
--- a header of this length is too long, or so many values are too many behind it
+-- a header of this length is too long, or `value_count` values are too many behind it
 abbrev pub IsTooLong : List ℕ → ℕ → ℕ → Type 0
 IsTooLong header header_len value_count =
     (most_bytes < header_len) ⊎ (values_limit header < value_count)
 
--- why so many values aren't kept behind a header
+-- the fault for which `value_count` values aren't kept behind a header
 abbrev pub IsRefused : List ℕ → ℕ → Fault → Type 0
 IsRefused header value_count fault =
     (fault ≡ NoMemory) ⊎ ((fault ≡ TooLong) × (values_limit header < value_count))
 
--- the frame as its header and values
+-- the frame that was kept, as its header and values
 abbrev pub frame_under : WholeFrame → Frame
 frame_under frame = record { header = frame.header.items; values = frame.values.items }
 
--- why a frame with this header, of this length, and so many values isn't kept
+-- the fault for which a frame with this header, of these sizes, isn't kept
 abbrev pub IsPassed : List ℕ → ℕ → ℕ → Fault → Type 0
 IsPassed header header_len value_count fault =
     ((fault ≡ NoMemory) × IsShort header_len value_count)
     ⊎ ((fault ≡ TooLong) × IsTooLong header header_len value_count)
 
--- what is kept of a frame's bytes, given what stands behind its head: all, or why nothing is and how
--- many bytes the frame has
+-- what is kept of a frame, given the bytes behind its head: all of it, or the fault for which it is
+-- skipped and the number of its bytes
 abbrev pub IsKeptRest : Head → List ℕ → NextFrame → Type 0
 IsKeptRest head bytes (Whole frame) =
     (frame_under frame ≡ record {
@@ -89,7 +90,7 @@ IsKeptRest head bytes (Passed fault len) =
     IsPassed (take head.header_len bytes) head.header_len head.value_count fault
     × (len ≡ 16 + (head.header_len + 8 * head.value_count))
 
--- what stands behind a frame's head was taken
+-- the bytes behind a frame's head were taken, and `next` is what is kept of the frame
 pub record TakesRest (before after : Option (List ℕ)) (h k : Option History)
     (old new : List ℕ) (head : Head) (next : NextFrame) : Type 0 where
   pub bytes : List ℕ
@@ -97,7 +98,8 @@ pub record TakesRest (before after : Option (List ℕ)) (h k : Option History)
   pub counted : length bytes ≡ head.header_len + 8 * head.value_count
   pub kept : IsKeptRest head bytes next
 
--- what is kept of a frame: all, or why nothing is and how many bytes it has
+-- what is kept of a frame, given its bytes: all of it, or the fault for which it is skipped and the
+-- number of its bytes
 abbrev pub IsKept : List ℕ → NextFrame → Type 0
 IsKept bytes (Whole frame) =
     (frame_under frame ≡ frame_in bytes) × IsShort (header_len bytes) (value_count bytes)
@@ -106,7 +108,7 @@ IsKept bytes (Passed fault len) =
     IsPassed (frame_in bytes).header (header_len bytes) (value_count bytes) fault
     × (len ≡ frame_len bytes)
 
--- a whole frame was taken
+-- a whole frame was taken, and `next` is what is kept of it
 pub record TakesFrame (before after : Option (List ℕ)) (h k : Option History)
     (old new : List ℕ) (next : NextFrame) : Type 0 where
   pub bytes : List ℕ
@@ -114,14 +116,15 @@ pub record TakesFrame (before after : Option (List ℕ)) (h k : Option History)
   pub whole : IsWhole bytes
   pub kept : IsKept bytes next
 
--- there is no byte more
+-- the client's bytes ended, and none is pending
 pub record Ends (before after : Option (List ℕ)) (h k : Option History) (old new : List ℕ)
     : Type 0 where
   pub takes : Takes before after h k old new []
   pub nothing : new ≡ []
   pub at_end : IsAtEnd after
 
--- a read failed, or the client's bytes ended in a frame
+-- the reading stopped inside a frame: a read failed, or the client's bytes ended after the frame's
+-- first byte
 pub record StopsInFrame (before after : Option (List ℕ)) (failed fails : ℕ) (old : List ℕ)
     : Type 0 where
   pub read : List ℕ
@@ -130,7 +133,7 @@ pub record StopsInFrame (before after : Option (List ℕ)) (failed fails : ℕ) 
   pub why : HasFailed failed fails
       ⊎ ((fails ≡ failed) × IsAtEnd after × (0 < length (old ++ read)))
 
--- some of what is pending was moved behind what is kept
+-- at least one and at most `most` pending bytes were moved behind the bytes that are kept
 pub record MovesBytes (most : ℕ) (old new kept now : List ℕ) : Type 0 where
   pub count : ℕ
   pub some : 0 < count
@@ -139,6 +142,7 @@ pub record MovesBytes (most : ℕ) (old new kept now : List ℕ) : Type 0 where
   pub left : new ≡ drop count old
   pub there : count ≤ length old
 
+-- at least one and at most `most` pending values were moved behind the values that are kept
 pub record MovesValues (most : ℕ) (old new : List ℕ) (kept now : List ℤ) : Type 0 where
   pub count : ℕ
   pub some : 0 < count

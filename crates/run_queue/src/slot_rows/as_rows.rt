@@ -1,4 +1,5 @@
-//! Rows of slots as `Rows`. The calls tell of their claims and looks, too.
+//! `SlotRows` as `Rows`. Each contract here says more than the trait's: which claim or look the
+//! call made.
 ghost use Rattle.std.specs.Prelude.{◌≡◌, ◌≢◌, ◌↔◌, ◌<◌, ◌≤◌, ◌+◌, ◌++◌, option_to_list};
 ghost use Rattle.std.specs.Prelude.{IfErr, IsErr, IsNone};
 ghost use Rattle.run_queue.specs.Account.{AddsIfOk};

@@ -1,4 +1,5 @@
-//! The end of rows of slots: one seat takes in all others, and so knows the whole account.
+//! The end of rows of slots: one seat takes over the accounts of all others, and so knows the whole
+//! account. The account that `close` promises comes from the rule in `specs/RowTable.antt`.
 ghost use Rattle.std.specs.Prelude.{◌≡◌, ℕ, ◌+◌, ◌<◌, ◌≤◌, ◌++◌, [], None, All, length};
 ghost use Rattle.std.specs.Prelude.{option_to_list, vec_len, vec_capacity};
 ghost use Rattle.std.specs.List.{flat_map};
@@ -20,7 +21,7 @@ use atomic_table::{Closed, Seat, Shared};
 use std::alloc::Allocator;
 
 impl<J: Drop, A: Allocator, F: Contents<J>> SlotRows<J, A, F> {
-    /// Ends the rows, given all their seats, and hands out the jobs that are left, in any order.
+    /// Ends the rows, given all their seats, and returns the jobs that are left, in any order.
     pub fn close(self, mut seats: Vec<SlotSeat<J>, A>) -> Vec<J, A>
         requires ours { All (λ s. table_of s ≡ rows_id self) seats.items }
         requires all { length seats.items ≡ seat_count_of self }
@@ -30,7 +31,7 @@ impl<J: Drop, A: Allocator, F: Contents<J>> SlotRows<J, A, F> {
         self.close_with(&mut seats)
     }
 
-    /// The same, and the seats are taken out of the list.
+    /// Does what `close` does, and takes the seats out of the list.
     pub(crate) fn close_with(self, seats: &mut Vec<SlotSeat<J>, A>) -> Vec<J, A>
         requires ours { All (λ s. table_of s ≡ rows_id self) seats.old.items }
         requires all { length seats.old.items ≡ seat_count_of self }
@@ -46,7 +47,8 @@ impl<J: Drop, A: Allocator, F: Contents<J>> SlotRows<J, A, F> {
     }
 }
 
-/// A seat with no account takes in the seats, the last first.
+/// Takes the seats out of the list, the last first, and joins their accounts to `last`, a seat that
+/// has none yet.
 fn gather<J, A: Allocator, F: Contents<J>>(
     shared: &Shared<Option<J>, View<J>, RowsKey<F::Key>, Law<J, F>>,
     last: &mut Seat<Option<J>, View<J>>,
@@ -71,7 +73,7 @@ fn gather<J, A: Allocator, F: Contents<J>>(
     }
 }
 
-/// Puts a slot's job to the others, where there is one.
+/// Appends the job of a slot, if it has one, to `left`.
 fn keep<J, A: Allocator>(left: &mut Vec<J, A>, slot: Option<J>)
     requires { vec_len left.old < vec_capacity left.old }
     ensures items { left.new.items ≡ left.old.items ++ option_to_list slot }
@@ -83,7 +85,7 @@ fn keep<J, A: Allocator>(left: &mut Vec<J, A>, slot: Option<J>)
     }
 }
 
-/// Takes each job out.
+/// Moves the jobs of all slots to `left`, and frees the table.
 fn drain<J, A: Allocator>(mut closed: Closed<Option<J>, A>, left: &mut Vec<J, A>)
     requires full { IsFull closed.slots }
     requires room { vec_len left.old + slots_len closed.slots ≤ vec_capacity left.old }

@@ -1,26 +1,27 @@
-//! What rows of slots are told of the jobs in them.
+//! `Contents`: what is known about the jobs in rows of slots. waking_rows implements it for jobs
+//! with tickets.
 ghost use Rattle.std.specs.Prelude.{◌≡◌, ℕ, Bool};
 
 use std::marker::Brand;
 
-/// What is known of each job that lies in rows of slots, by the row that it lies in, and whether
-/// the rows have lengths of their own.
+/// What is known about each job in rows of slots, by the row in which it lies; and whether the rows
+/// have length words.
 pub trait Contents<J> {
-    /// What the rows are opened with, for what is known to name. Contracts alone see it.
+    /// The key with which the rows are opened: a value that `fits` may name. Only contracts see it.
     type Key: Drop;
 
-    // What is known of a job in a row, by the rows' key and the row's number.
+    // What is known about a job in a row, given the rows' key and the row's number.
     ghost fits: { Self.Key → ℕ → J → Type 0 };
 
-    // Whether the rows have lengths of their own.
+    // Whether the rows have length words.
     ghost counted: { Bool };
 
-    /// Whether they have.
+    /// Returns whether the rows have length words.
     fn have_lengths() -> bool
         ensures { result ≡ counted };
 }
 
-/// Nothing is known of a job, and the rows have lengths.
+/// Contents about which nothing is known, in rows with length words.
 pub struct AnyJob;
 
 impl<J> Contents<J> for AnyJob {
@@ -38,7 +39,7 @@ impl<J> Contents<J> for AnyJob {
     }
 }
 
-/// What is known of the jobs in the rows of one claim.
+/// What is known about the jobs in the rows, as the play of one claim names it.
 pub trait Known<J> {
     ghost known: { ℕ → J → Type 0 };
 }

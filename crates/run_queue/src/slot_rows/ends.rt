@@ -1,4 +1,5 @@
-//! The four ends of rows of slots, and their lengths. A call at an end makes one claim.
+//! The calls at the front and the back of a row of slots, and the load of its length. Each call at
+//! an end makes one claim, and `as_rows.rt` repeats its contract.
 ghost use Rattle.std.specs.Prelude.{◌≡◌, ◌≢◌, ◌↔◌, ◌<◌, ◌≤◌, ◌+◌, ◌++◌, option_to_list};
 ghost use Rattle.std.specs.Prelude.{IfErr, IsErr, IsNone, OnOk, OnErr, OnSome, IfSome, IfNone};
 ghost use Rattle.run_queue.specs.Account.{AddsIfOk};
@@ -20,8 +21,8 @@ use std::marker::Brand;
 use std::sync::Wait;
 
 impl<J, A: Allocator, F: Contents<J>> SlotRows<J, A, F> {
-    /// Puts a job in at the front of the seat's own row, or gives it back where the element there
-    /// is not empty.
+    /// Puts a job in at the front of the seat's own row, or returns it if the element there is not
+    /// empty.
     pub fn push_front(&self, seat: &mut SlotSeat<J>, job: J) -> Result<(), J>
         requires ours { table_of seat.old ≡ rows_id self.now }
         requires owner { number_in seat.old < row_count_of self.now }
@@ -47,7 +48,8 @@ impl<J, A: Allocator, F: Contents<J>> SlotRows<J, A, F> {
         pushed
     }
 
-    /// Takes the job before the front of the seat's own row, where the element there is ready.
+    /// Takes the job before the front of the seat's own row. None if the element there is not
+    /// ready.
     pub fn pop_front(&self, seat: &mut SlotSeat<J>) -> Option<J>
         requires ours { table_of seat.old ≡ rows_id self.now }
         requires owner { number_in seat.old < row_count_of self.now }
@@ -73,8 +75,7 @@ impl<J, A: Allocator, F: Contents<J>> SlotRows<J, A, F> {
         popped
     }
 
-    /// Puts a job in before the back of a row, or gives it back where the element there is not
-    /// empty.
+    /// Puts a job in before the back of a row, or returns it if the element there is not empty.
     pub fn push_back<R: Wait>(
         &self,
         rt: &R,
@@ -106,7 +107,7 @@ impl<J, A: Allocator, F: Contents<J>> SlotRows<J, A, F> {
         pushed
     }
 
-    /// Takes the job at the back of a row, where the element there is ready.
+    /// Takes the job at the back of a row. None if the element there is not ready.
     pub fn pop_back<R: Wait>(&self, rt: &R, seat: &mut SlotSeat<J>, row: u16) -> Option<J>
         requires ours { table_of seat.old ≡ rows_id self.now }
         requires row { row < row_count_of self.now }
@@ -133,8 +134,8 @@ impl<J, A: Allocator, F: Contents<J>> SlotRows<J, A, F> {
 }
 
 impl<J, A: Allocator> SlotRows<J, A, AnyJob> {
-    /// How many jobs are in a row. Jobs that are on their way in or out may be counted too, one for
-    /// each seat.
+    /// Returns how many jobs a row has. Jobs on their way in or out may be counted too, at most one
+    /// for each seat.
     pub fn length(&self, seat: &mut SlotSeat<J>, row: u16) -> u64
         requires ours { table_of seat.old ≡ rows_id self.now }
         requires row { row < row_count_of self.now }

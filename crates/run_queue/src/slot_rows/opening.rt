@@ -1,4 +1,5 @@
-//! What rows of slots begin with: nothing in them, and their seats.
+//! How rows of slots are opened: empty rows and their seats. The sizes here are facts of the type
+//! `SlotRows`.
 ghost use Rattle.std.specs.Prelude.{◌≡◌, ◌+◌, ◌<◌, ◌≤◌, ◌↔◌, [], map, All, IfOk, IsErrOf};
 ghost use Rattle.std.specs.Prelude.{◌*◌, replicate, vec_len, vec_capacity};
 ghost use Rattle.std.specs.List.{range_with_len};
@@ -23,7 +24,8 @@ use std::alloc::{AllocError, Allocator};
 use std::sync::Mutex;
 
 impl<J: Drop, A: Allocator + Clone> SlotRows<J, A, AnyJob> {
-    /// Empty rows and their seats, by number. This takes the memory of `close` too.
+    /// Returns `rows` empty rows and `rows + outsiders` seats, by number. Allocates the memory that
+    /// `close` needs, too.
     pub fn open(
         alloc: A,
         rows: u16,
@@ -44,7 +46,8 @@ impl<J: Drop, A: Allocator + Clone> SlotRows<J, A, AnyJob> {
 }
 
 impl<J: Drop, A: Allocator + Clone, F: Contents<J>> SlotRows<J, A, F> {
-    /// The same, for jobs of which something is known.
+    /// Does what `open` does, for jobs about which something is known. `key` is what the contents
+    /// name.
     pub fn open_for(
         alloc: A,
         rows: u16,
@@ -84,7 +87,7 @@ impl<J: Drop, A: Allocator + Clone, F: Contents<J>> SlotRows<J, A, F> {
     }
 }
 
-/// A table for so many rows with nothing in them, and its seats.
+/// Returns a table for `rows` empty rows, and its seats by number.
 fn seated<J: Drop, A: Allocator + Clone, F: Contents<J>>(
     alloc: A,
     rows: u16,
@@ -110,7 +113,7 @@ fn seated<J: Drop, A: Allocator + Clone, F: Contents<J>>(
     ensures fronts { IfOk result (λ r. All (λ s. front_of s ≡ 0) r.1.items) }
 {
     let count = usize::from(rows) * ROW_JOBS;
-    // A line behind the last length is the table's too, and so a table of no rows has words.
+    // One more line follows the last length. So a table of no rows has words, too.
     let word_count = count + LINE_WORDS * (usize::from(rows) + 1) + 1;
     let words = empty_words(&alloc, word_count)?;
     let list = room_for(&alloc, key.seats as usize)?;
@@ -119,7 +122,7 @@ fn seated<J: Drop, A: Allocator + Clone, F: Contents<J>>(
     Ok((table, list))
 }
 
-/// So many words, each of an empty element or the length of a row with nothing in it.
+/// Returns `count` words, each the word of an empty element or the length of an empty row.
 fn empty_words<A: Allocator + Clone>(alloc: &A, count: usize) -> Result<Vec<u64, A>, AllocError>
     ensures { IfOk result (λ words. words.items ≡ replicate count empty_word) }
 {
@@ -128,7 +131,7 @@ fn empty_words<A: Allocator + Clone>(alloc: &A, count: usize) -> Result<Vec<u64,
     Ok(words)
 }
 
-/// The backs of so many rows, each at its first position.
+/// Returns `count` back positions, each the first position of its row.
 fn backs<A: Allocator + Clone>(alloc: &A, count: u16) -> Result<Vec<Mutex<Back>, A>, AllocError>
     ensures { IfOk result (λ backs. vec_len backs ≡ count) }
 {
@@ -139,7 +142,7 @@ fn backs<A: Allocator + Clone>(alloc: &A, count: u16) -> Result<Vec<Mutex<Back>,
     Ok(backs)
 }
 
-/// One seat after another, by number.
+/// Splits `count` seats off the keeper, by number.
 fn deal<J, A: Allocator, F: Contents<J>>(
     shared: &Shared<Option<J>, View<J>, RowsKey<F::Key>, Law<J, F>>,
     mut keeper: Seat<Option<J>, View<J>>,

@@ -1,4 +1,5 @@
-//! What the steps on an element's word tell.
+//! The plays of a table of rows: what each step tells the seat that makes it. `specs/Plays.antt`
+//! defines them, and the proofs of `steps.rt` rest on them.
 ghost use Rattle.std.specs.Prelude.{Option, ℕ};
 
 use crate::slot_rows::contents::{Contents, Known};
@@ -6,19 +7,19 @@ use crate::slot_rows::view::View;
 use atomic_table::Play;
 use std::marker::{Brand, PhantomData};
 
-/// Where a claim that succeeds moves the front.
+/// How a claim that succeeds moves the front position.
 pub trait Shift {
     ghost shift: { ℕ → ℕ };
 }
 
-/// A claim at the back leaves the front.
+/// A claim at the back does not move the front.
 pub struct Stays;
 
 impl Shift for Stays {
     ghost shift = { λ front. front };
 }
 
-/// A push at the front.
+/// A push at the front moves the front to the next position.
 pub struct MovesUp;
 
 impl Shift for MovesUp {
@@ -27,7 +28,7 @@ impl Shift for MovesUp {
     ghost shift = { position_after };
 }
 
-/// A pop at the front.
+/// A pop at the front moves the front to the position before.
 pub struct MovesDown;
 
 impl Shift for MovesDown {
@@ -36,7 +37,7 @@ impl Shift for MovesDown {
     ghost shift = { position_before };
 }
 
-/// An empty element is claimed.
+/// The play of a claim of an empty element.
 pub struct ClaimsIn<M> {
     of: PhantomData<M>,
 }
@@ -47,7 +48,7 @@ impl<J, M: Shift> Play<Option<J>, View<J>> for ClaimsIn<M> {
     ghost then = { claims_in M.shift };
 }
 
-/// The length of a busy element's row is raised.
+/// The play of raising the length of a busy element's row.
 pub struct Raises;
 
 impl<J> Play<Option<J>, View<J>> for Raises {
@@ -56,7 +57,7 @@ impl<J> Play<Option<J>, View<J>> for Raises {
     ghost then = { raises };
 }
 
-/// A busy element is made ready, with the job that the seat has in it.
+/// The play of making a busy element ready, with the job that the seat has for it.
 pub struct MakesReady;
 
 impl<J> Play<Option<J>, View<J>> for MakesReady {
@@ -65,7 +66,7 @@ impl<J> Play<Option<J>, View<J>> for MakesReady {
     ghost then = { makes_ready };
 }
 
-/// A ready element is claimed.
+/// The play of a claim of a ready element.
 pub struct ClaimsOut<M, F, C> {
     of: PhantomData<(M, F, C)>,
 }
@@ -76,7 +77,7 @@ impl<J, M: Shift, F: Contents<J>, C: Known<J>> Play<Option<J>, View<J>> for Clai
     ghost then = { claims_out C.known F.counted M.shift };
 }
 
-/// A busy element is made empty.
+/// The play of making a busy element empty.
 pub struct MakesEmpty;
 
 impl<J> Play<Option<J>, View<J>> for MakesEmpty {
@@ -85,7 +86,7 @@ impl<J> Play<Option<J>, View<J>> for MakesEmpty {
     ghost then = { makes_empty };
 }
 
-/// The length of a row that a job was taken out of is lowered.
+/// The play of lowering the length of a row from which the seat took a job.
 pub struct Lowers;
 
 impl<J> Play<Option<J>, View<J>> for Lowers {
@@ -94,7 +95,7 @@ impl<J> Play<Option<J>, View<J>> for Lowers {
     ghost then = { lowers };
 }
 
-/// How many seats were made with the rows of a look, which bounds what it finds.
+/// How many seats were made with the rows of a look. This bounds the length that the look finds.
 pub trait SeatCount {
     ghost seats: { ℕ };
 }
@@ -103,7 +104,7 @@ impl SeatCount for Brand {
     ghost seats = { 0 };
 }
 
-/// The length of a row is looked at.
+/// The play of a look at the length of a row.
 pub struct Looks<C> {
     of: PhantomData<C>,
 }
@@ -114,7 +115,7 @@ impl<J, C: SeatCount> Play<Option<J>, View<J>> for Looks<C> {
     ghost then = { looks C.seats };
 }
 
-/// A seat comes that has no account.
+/// The play of a new seat, which has no account.
 pub struct Enters;
 
 impl<J> Play<Option<J>, View<J>> for Enters {

@@ -1,4 +1,5 @@
-//! Room for a list, kept where threads share it.
+//! `Reserve`: room for a list, kept where threads share it. `SlotRows` and waking_rows keep the
+//! room for the jobs that are left in one.
 ghost use Rattle.std.specs.Prelude.{◌≡◌, ◌≤◌, ℕ, [], vec_capacity, IfOk};
 
 use crate::room::room_for;
@@ -6,7 +7,8 @@ use atomic_table::{Table, TableRule};
 use std::alloc::{AllocError, Allocator};
 use std::marker::{Model, PhantomData};
 
-/// The table has one slot, with an empty list in it that has so much room.
+/// The rule of a reserve's table: its one slot has an empty list with room for the number of
+/// elements that is the key.
 pub struct HasRoom<J, A: Allocator> {
     of: PhantomData<(J, A)>,
 }
@@ -19,16 +21,16 @@ impl<J, A: Allocator> TableRule<Vec<J, A>, (), usize> for HasRoom<J, A> {
     ghost first = { λ _. tt };
 }
 
-/// Room for a list, which no thread comes to before the end.
+/// Room for a list, which no thread uses before the end.
 ///
-/// An empty list may be shared only where its elements may. This may be shared wherever they may
-/// cross threads.
+/// Threads may share a list, even an empty one, only if they may share its elements. They may share
+/// a `Reserve` whenever its elements may move between threads.
 #[derive(Drop)]
 pub struct Reserve<J, A: Allocator> {
     table: Table<Vec<J, A>, (), usize, HasRoom<J, A>, A>,
 }
 
-// Clauses see for how many elements there is room.
+// Clauses see the number of elements for which there is room.
 impl<J, A: Allocator> Model for Reserve<J, A> {
     ghost Value = { ℕ };
 
@@ -38,7 +40,7 @@ impl<J, A: Allocator> Model for Reserve<J, A> {
 }
 
 impl<J: Drop, A: Allocator> Reserve<J, A> {
-    /// Room for so many elements.
+    /// Returns room for `room` elements, or an error if an allocation fails.
     pub fn new(alloc: &A, room: usize) -> Result<Self, AllocError>
     where
         A: Clone,
@@ -53,7 +55,7 @@ impl<J: Drop, A: Allocator> Reserve<J, A> {
         }
     }
 
-    /// The list, in which there is nothing yet.
+    /// Returns the list, which is empty.
     pub fn into_list(self) -> Vec<J, A>
         ensures none { result.items ≡ [] }
         ensures room { self ≤ vec_capacity result }

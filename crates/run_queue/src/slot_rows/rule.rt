@@ -1,4 +1,6 @@
-//! The rule of a table of rows, and how its views are cut and put together.
+//! The rule of a table of rows, and how its views are split and joined. The definitions are in
+//! `specs/RowTable.antt` and `specs/Views.antt`. Every step and every law of the crate rests on
+//! this rule.
 ghost use Rattle.std.specs.Prelude.{Option};
 
 use crate::slot_rows::contents::{AnyJob, Contents};
@@ -6,26 +8,29 @@ use crate::slot_rows::view::View;
 use atomic_table::{Join, Split, TableRule};
 use std::marker::PhantomData;
 
-/// No job is here.
+/// The word of an element that has no job.
 pub const EMPTY: u64 = 0;
 
-/// One seat works here, and has the slot.
+/// The word of an element on which one seat works. That seat has the slot.
 pub const BUSY: u64 = 1;
 
-/// A job is here.
+/// The word of an element that has a job.
 pub const READY: u64 = 2;
 
-/// The words of a cache line: each length has a line of its own.
+/// How many words a cache line has. Each length has a line of its own.
 pub const LINE_WORDS: usize = 8;
 
-/// How many seats were made with rows, and what is told of the jobs in them.
+/// The key of a table of rows. Its rule names it.
 #[derive(Drop)]
 pub struct RowsKey<K> {
+    /// How many seats were made with the rows.
     pub seats: u32,
+    /// The key of the rows' contents.
     pub of: K,
 }
 
-/// In every state the table keeps the account of its rows, and each job that lies in a row fits it.
+/// The rule of a table of rows: every state keeps the account of the rows, and each job in a row
+/// fits that row.
 pub struct Law<J, F = AnyJob> {
     of: PhantomData<(J, F)>,
 }
@@ -39,7 +44,7 @@ impl<J, F: Contents<J>> TableRule<Option<J>, View<J>, RowsKey<F::Key>> for Law<J
     ghost first = { λ key. fresh key.seats };
 }
 
-/// One seat's account is cut off.
+/// Splits one seat's account off a view.
 pub struct Deals<J> {
     of: PhantomData<J>,
 }
@@ -52,7 +57,7 @@ impl<J> Split<View<J>> for Deals<J> {
     ghost right = { λ _. fresh 1 };
 }
 
-/// The accounts of both.
+/// Joins the accounts of two views.
 pub struct TakesIn<J> {
     of: PhantomData<J>,
 }

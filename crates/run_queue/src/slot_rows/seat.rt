@@ -1,11 +1,12 @@
-//! The right to use rows of slots.
+//! `SlotSeat`: the right to use rows of slots. The contracts of all calls name its parts by
+//! `specs/SlotSeats.antt`.
 ghost use Rattle.std.specs.Prelude.{None, ◌≡◌, ◌<◌, []};
 ghost use Rattle.run_queue.specs.Limits.{most_jobs};
 
 use crate::slot_rows::view::View;
 use atomic_table::Seat;
 
-/// A seat at the table, which works on no element and owes no row.
+/// A seat at the table. Between calls it works on no element and owes no row.
 #[derive(Drop)]
 pub struct Held<J> {
     pub(crate) seat: Seat<Option<J>, View<J>>,
@@ -15,9 +16,9 @@ pub struct Held<J> {
     ghost one_part: { seat.me.0.parts ≡ 1 },
 }
 
-/// A seat at `SlotRows`, for one thread at a time. It may cross threads.
+/// A seat at `SlotRows`, for one thread at a time. It may move between threads.
 ///
-/// Once a seat was dropped its rows can't be closed any more.
+/// Rows can't be closed once one of their seats was dropped.
 #[derive(Drop)]
 pub struct SlotSeat<J> {
     pub(crate) held: Held<J>,
@@ -31,7 +32,7 @@ pub struct SlotSeat<J> {
 impl<J> SlotSeat<J> {
     ghost use Rattle.run_queue.specs.SlotSeats.{number_in};
 
-    /// The seat's number. It owns the row of that number, where there is one.
+    /// Returns the seat's number. The seat owns the row of this number, if there is one.
     pub fn number(&self) -> u32
         ensures { result ≡ number_in self.now }
     {

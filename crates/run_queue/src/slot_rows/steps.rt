@@ -1,4 +1,5 @@
-//! What is done to one element, and to the length of its row.
+//! The steps on one element, and on the length of its row. Each step is a play of `plays.rt`, and
+//! their order keeps the rule of the table.
 ghost use Rattle.std.specs.Prelude.{◌≡◌, ℕ, ◌<◌, ◌≤◌, ◌+◌, ◌++◌, option_to_list, Some, None, true};
 ghost use Rattle.std.specs.Prelude.{IfErr, OnOk, OnErr, OnSome, IfSome, IfNone};
 ghost use Rattle.run_queue.specs.Account.{AddsIfOk};
@@ -23,7 +24,7 @@ use atomic_table::Seat;
 use std::alloc::Allocator;
 
 impl<J, A: Allocator, F: Contents<J>> SlotRows<J, A, F> {
-    /// The word with the length of a row.
+    /// Returns which word of the table has the length of a row.
     pub(crate) fn length_word(&self, row: usize) -> usize
         requires row { row < row_count_of self.now }
         ensures { result ≡ length_word (elements_of self.now) row }
@@ -31,7 +32,7 @@ impl<J, A: Allocator, F: Contents<J>> SlotRows<J, A, F> {
         self.table.slot_count() + LINE_WORDS * (row + 1)
     }
 
-    /// The element at a position of a row.
+    /// Returns the element at a position of a row.
     pub(crate) fn element(&self, row: usize, position: usize) -> usize
         requires row { row < row_count_of self.now }
         requires position { position < most_jobs }
@@ -41,7 +42,8 @@ impl<J, A: Allocator, F: Contents<J>> SlotRows<J, A, F> {
         row * ROW_JOBS + position
     }
 
-    /// Raises the length of the row of an element on which the seat works, where rows have lengths.
+    /// Raises the length of an element's row, if the rows have length words. The seat works on the
+    /// element.
     fn raise(&self, seat: &mut Seat<Option<J>, View<J>>, element: usize)
         requires of { seat.old.table_id ≡ rows_id self.now }
         requires near { element < elements_of self.now }
@@ -59,8 +61,8 @@ impl<J, A: Allocator, F: Contents<J>> SlotRows<J, A, F> {
         self.table.shared.fetch_add::<Raises>(seat, word, 1);
     }
 
-    /// Lowers the length of the row of an element that the seat took a job out of and gave back,
-    /// where rows have lengths.
+    /// Lowers the length of an element's row, if the rows have length words. The seat took the
+    /// element's job, and made the element empty.
     fn lower(&self, seat: &mut Seat<Option<J>, View<J>>, element: usize)
         requires of { seat.old.table_id ≡ rows_id self.now }
         requires near { element < elements_of self.now }
@@ -78,7 +80,7 @@ impl<J, A: Allocator, F: Contents<J>> SlotRows<J, A, F> {
         self.table.shared.fetch_sub::<Lowers>(seat, word, 1);
     }
 
-    /// Loads the length of a row.
+    /// Loads and returns the length of a row.
     pub(crate) fn look_at<C: SeatCount>(&self, held: &mut Held<J>, row: usize) -> u64
         requires counted { F.counted ≡ true }
         requires of { held_id held.old ≡ rows_id self.now }
@@ -94,8 +96,8 @@ impl<J, A: Allocator, F: Contents<J>> SlotRows<J, A, F> {
         self.table.shared.load::<Looks<C>>(&mut held.seat, word)
     }
 
-    /// Puts the job into an element, where that is empty. The length is raised before the job can
-    /// be taken out.
+    /// Puts the job into an element, or returns it if the element is not empty. The length is
+    /// raised before another seat can take the job.
     pub(crate) fn push_at<M: Shift>(
         &self,
         held: &mut Held<J>,
@@ -126,8 +128,8 @@ impl<J, A: Allocator, F: Contents<J>> SlotRows<J, A, F> {
         Ok(())
     }
 
-    /// Takes the job of an element, where that is ready. The length is lowered after the element
-    /// was made empty.
+    /// Takes the job of an element. None if the element is not ready. The length is lowered after
+    /// the element was made empty.
     pub(crate) fn pop_at<M: Shift, C: Known<J>>(
         &self,
         held: &mut Held<J>,

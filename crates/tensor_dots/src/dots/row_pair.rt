@@ -1,9 +1,10 @@
-//! A row of one list and a row of another, whose products are summed.
+//! A row of one list and a row of another, as `row_sums` and the functions for sixteen and eight
+//! rows take them.
 
 ghost use Rattle.std.specs.Prelude.{◌≡◌, ℕ, ◌+◌, ◌<◌, ◌≤◌, ◌^◌, length, slice_index};
 ghost use Rattle.tensor_shape.specs.Legal.{most_elements};
 
-/// A row of a list. Value q of it lies at its start, moved by offset q.
+/// A row of a list. Value `q` lies at its start, moved by offset `q`.
 #[derive(Clone, Copy, Drop)]
 pub(crate) struct Row<'a> {
     pub(crate) values: &'a [i64],
@@ -13,8 +14,8 @@ pub(crate) struct Row<'a> {
     ghost short: { length offsets.now ≤ most_elements },
 }
 
-/// Two rows with equally many values. The first may have others beside it: row k of these begins k
-/// places behind it. The second lies within its list.
+/// Two rows with equally many values. The second lies within its list. The first stands for rows
+/// that begin side by side: row `k` of them begins `k` places behind it.
 #[derive(Clone, Copy, Drop)]
 pub(crate) struct RowPair<'a> {
     pub(crate) first: Row<'a>,

@@ -1,5 +1,5 @@
-//! Sums of the products of rows and one row: a row has the values at its start, moved by offsets.
-//! Rows that begin side by side are passed together.
+//! Sums of products of many rows with one row. Rows that begin side by side are summed sixteen or
+//! eight at a time. `Dots` and `WindowDots` go by these; specs/private/RowPairs defines the sums.
 
 ghost use Rattle.std.specs.Prelude.{◌≡◌, ℕ, ◌+◌, ◌-◌, ◌<◌, ◌≤◌, length, slice_index, IsTrue};
 ghost use Rattle.tensor_values.specs.Values.{value_in};
@@ -13,7 +13,7 @@ use crate::lanes::mul_add;
 use crate::rows::part::RowsPart;
 use crate::rows::starts::side_by_side;
 
-/// The sums of the products of each of some rows and another row.
+/// Writes the sum of products of each of the rows with one row.
 pub(crate) fn row_sums<'a>(rows: &RowsPart<'a>, row: &Row<'a>, out: &mut [i64])
     requires lengths { length rows.now.offsets.now ≡ length row.now.offsets.now }
     requires inside { (q : ℕ) → q < length row.now.offsets.now
@@ -39,8 +39,9 @@ pub(crate) fn row_sums<'a>(rows: &RowsPart<'a>, row: &Row<'a>, out: &mut [i64])
     }
 }
 
-/// The same sums of the rows that begin side by side with the first of a pair: sixteen at a time or
-/// eight, and then one by one. Who knows that all values fit 32 bits may say so, for a faster way.
+/// Writes the sums of products of the rows that begin side by side with the first row of a pair:
+/// sixteen rows at a time, then eight, then one by one. `small` says that all values of both lists
+/// fit 32 bits, and makes it faster; `false` is always right.
 pub(crate) fn sums_of_run(pair: &RowPair<'_>, small: bool, out: &mut [i64])
     requires small { IsTrue small → IsSmallPair pair.now }
     requires rows { HasRows (length out.old) pair.now }
@@ -53,7 +54,8 @@ pub(crate) fn sums_of_run(pair: &RowPair<'_>, small: bool, out: &mut [i64])
     }
 }
 
-/// Writes as many sums as can be made together, and tells how many those are.
+/// Writes the sums of the first rows, sixteen or eight at a time, and returns how many it wrote.
+/// Fewer than eight rows are left.
 fn fill_together(pair: &RowPair<'_>, small: bool, out: &mut [i64]) -> usize
     requires small { IsTrue small → IsSmallPair pair.now }
     requires rows { HasRows (length out.old) pair.now }
@@ -74,7 +76,7 @@ fn fill_together(pair: &RowPair<'_>, small: bool, out: &mut [i64]) -> usize
     k
 }
 
-/// The sums of sixteen rows, from row k on.
+/// Returns the sums of sixteen rows, from row `k` on.
 #[inline(always)]
 fn sixteen(pair: &RowPair<'_>, k: usize, small: bool) -> [i64; 16]
     requires small { IsTrue small → IsSmallPair pair.now }
@@ -89,7 +91,7 @@ fn sixteen(pair: &RowPair<'_>, k: usize, small: bool) -> [i64; 16]
     }
 }
 
-/// The sums of eight rows, from row k on.
+/// Returns the sums of eight rows, from row `k` on.
 #[inline(always)]
 fn eight(pair: &RowPair<'_>, k: usize, small: bool) -> [i64; 8]
     requires small { IsTrue small → IsSmallPair pair.now }
@@ -104,7 +106,7 @@ fn eight(pair: &RowPair<'_>, k: usize, small: bool) -> [i64; 8]
     }
 }
 
-/// Stores sums from place k on. What is before them stays.
+/// Stores sums from place `k` on. Earlier values stay as they are.
 #[inline(always)]
 fn store(out: &mut [i64], k: usize, sums: &[i64])
     requires { k + length sums.now ≤ length out.old }
@@ -117,7 +119,7 @@ fn store(out: &mut [i64], k: usize, sums: &[i64])
     }
 }
 
-/// The sum of the products of row k and the second row, modulo 2^64.
+/// Returns the sum of products of row `k` with the second row, modulo 2^64.
 fn sum_of_products(pair: &RowPair<'_>, k: usize) -> i64
     requires { HasRows (k + 1) pair.now }
     ensures { result ≡ pair_dot pair.now k }

@@ -1,5 +1,5 @@
-//! Sums of the products of sixteen rows that begin side by side and one row, each of whose values is
-//! loaded once for sixteen products.
+//! Sums of products of sixteen rows with one row. The sixteen begin side by side, so each value of
+//! the one row is loaded once for sixteen products. `row_sums` chooses between the two functions.
 
 ghost use Rattle.std.specs.Prelude.{◌≡◌, ℕ, ◌+◌, ◌<◌};
 ghost use Rattle.tensor_values.specs.Values.{value_in};
@@ -11,7 +11,8 @@ use crate::lanes::small::{add_product, four_from, spread_from};
 use crate::lanes::{halves, small};
 use std::simd::prelude::*;
 
-/// The sums of the products of sixteen rows, from row k on, and the second row of a pair, by halves.
+/// Returns the sums of products of sixteen rows, from row `k` on, with the second row of a pair.
+/// The products are made by halves.
 #[inline(never)]
 pub(crate) fn wide_sixteen(pair: &RowPair<'_>, k: usize) -> [i64; 16]
     requires { HasRows (k + 16) pair.now }
@@ -42,7 +43,8 @@ pub(crate) fn wide_sixteen(pair: &RowPair<'_>, k: usize) -> [i64; 16]
     sums
 }
 
-/// The same where all numbers fit 32 bits: four products an instruction.
+/// Returns the sums of products of sixteen rows, from row `k` on, with the second row of a pair,
+/// all of numbers that fit 32 bits.
 #[inline(never)]
 pub(crate) fn small_sixteen(pair: &RowPair<'_>, k: usize) -> [i64; 16]
     requires small { IsSmallPair pair.now }

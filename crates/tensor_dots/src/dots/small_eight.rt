@@ -1,5 +1,5 @@
-//! Sums of the products of eight rows that begin side by side and one row, all of numbers that fit
-//! 32 bits: two products an instruction.
+//! Sums of products of eight rows with one row, all of numbers that fit 32 bits. The eight rows
+//! begin side by side. `row_sums` calls this.
 
 ghost use Rattle.std.specs.Prelude.{◌≡◌, ℕ, ◌+◌, ◌<◌, length};
 ghost use Rattle.tensor_dots.specs.Lanes.{AreLanes, AreSmall};
@@ -10,7 +10,7 @@ use crate::dots::row_pair::RowPair;
 use crate::lanes::small::{add_product, four_from, spread_from};
 use std::simd::prelude::*;
 
-/// The sums of the products of eight rows, from row k on, and the second row of a pair.
+/// Returns the sums of products of eight rows, from row `k` on, with the second row of a pair.
 #[inline(never)]
 pub(crate) fn small_eight(pair: &RowPair<'_>, k: usize) -> [i64; 8]
     requires small { IsSmallPair pair.now }
@@ -29,7 +29,7 @@ pub(crate) fn small_eight(pair: &RowPair<'_>, k: usize) -> [i64; 8]
     joined(low, high)
 }
 
-/// The lanes of two vectors, one after the other.
+/// Returns the lanes of two vectors, one after the other.
 #[inline(always)]
 fn joined(low: i64x4, high: i64x4) -> [i64; 8]
     requires low { AreLanes low }

@@ -1,5 +1,6 @@
-//! Contractions of operands whose rows lie side by side: each value is a sum over two slices, and
-//! no offsets are listed.
+//! Contractions of operands whose rows are slices: each value is a sum over two slices, without
+//! offsets. `StripDots` is what tensor_kernels puts in a `Contraction`; its values are defined in
+//! specs/StripDots.
 
 ghost use Rattle.std.specs.Prelude.{◌≡◌, ℕ, ◌*◌, ◌+◌, ◌+ℤ◌, ◌*ℤ◌, ◌<◌, ◌≤◌, length};
 ghost use Rattle.tensor_shape.specs.Wrap.{wrap};
@@ -10,7 +11,9 @@ ghost use Rattle.tensor_dots.specs.Strips.{strip_count, strip_length, strip_valu
 use crate::lanes::mul_add;
 use crate::rows::strips::Strips;
 
-/// Two operands whose rows have equally many values.
+/// Two operands, whose rows have equally many values. The value at place `p` of the result belongs
+/// to row `p % rows` of the first operand and row `p / rows` of the second, where the first has
+/// `rows` rows.
 #[derive(Drop)]
 pub struct StripDots<'a> {
     first: Strips<'a>,
@@ -21,7 +24,7 @@ pub struct StripDots<'a> {
 impl<'a> StripDots<'a> {
     ghost use Rattle.tensor_dots.specs.StripDots.{strip_dots_count, strip_dots_value};
 
-    /// The contraction of two operands, value by value.
+    /// Returns the contraction of two operands, to be evaluated value by value.
     pub fn of(first: Strips<'a>, second: Strips<'a>) -> StripDots<'a>
         requires { strip_length first ≡ strip_length second }
         ensures count { strip_dots_count result
@@ -33,7 +36,7 @@ impl<'a> StripDots<'a> {
         StripDots { first, second }
     }
 
-    /// Writes the values from a place of the result on.
+    /// Writes the values of the places from `first` on, as many as `out` has room for.
     pub fn fill(&self, first: usize, out: &mut [i64])
         requires { first + length out.old ≤ strip_dots_count self.now }
         ensures len { length out.new ≡ length out.old }
@@ -45,7 +48,7 @@ impl<'a> StripDots<'a> {
         }
     }
 
-    /// The value at a place of the result.
+    /// Returns the value at a place of the result.
     fn value(&self, place: usize) -> i64
         requires { place < strip_dots_count self.now }
         ensures { result ≡ strip_dots_value self.now place }
@@ -55,7 +58,7 @@ impl<'a> StripDots<'a> {
     }
 }
 
-/// The sum of the products of two rows, modulo 2^64.
+/// Returns the sum of products of two rows, modulo 2^64.
 fn dot(a: &[i64], b: &[i64]) -> i64
     requires { length a.now ≡ length b.now }
     ensures { result ≡ wrap (sum_to (λ q. value_in a.now q *ℤ value_in b.now q) (length a.now)) }
@@ -67,7 +70,7 @@ fn dot(a: &[i64], b: &[i64]) -> i64
     sum
 }
 
-/// A sum, and the products of two rows more, modulo 2^64.
+/// Returns `first` plus the sum of products of two rows, modulo 2^64.
 pub fn sum_with_products(first: i64, a: &[i64], b: &[i64]) -> i64
     requires { length a.now ≡ length b.now }
     ensures { result ≡ wrap (first

@@ -1,6 +1,6 @@
-//! Sums of the products of eight rows that begin side by side and one row, in registers. They are
-//! kept as rows are dealt in two, those of 0, 4, 1, 5, 2, 6, 3 and 7: of sums in the order of their
-//! rows LLVM makes vectors, with three products of 32 bits for one of 64.
+//! Sums of products of eight rows with one row, in registers. The eight rows begin side by side.
+//! Their sums are kept in the order 0, 4, 1, 5, 2, 6, 3, 7. In the order of the rows LLVM would
+//! make vectors of them, with three products of 32 bits for each one of 64.
 
 ghost use Rattle.std.specs.Prelude.{◌≡◌, ℕ, ◌+◌, ◌*◌, ◌/◌, ◌%◌, ◌<◌, ◌≤◌, length};
 ghost use Rattle.std.specs.Prelude.{◌*ℤ◌};
@@ -11,7 +11,8 @@ ghost use Rattle.tensor_dots.specs.private.RowPairs.{HasRows, pair_dot};
 use crate::dots::row_pair::RowPair;
 use crate::lanes::mul_add;
 
-/// One product more for each of eight dealt sums: those of eight values of a, from place i on.
+/// Adds a product to each of eight sums in the dealt order: of the eight values of `a` from place
+/// `i` on, and `factor`.
 #[inline(always)]
 fn add_eight(sums: &mut [i64; 8], a: &[i64], i: usize, factor: i64)
     requires { i + 8 ≤ length a.now }
@@ -24,8 +25,9 @@ fn add_eight(sums: &mut [i64; 8], a: &[i64], i: usize, factor: i64)
     }
 }
 
-/// The dealt sums of the products of eight rows, from row k on, and the second row of a pair. A call
-/// of its own: what is around it would push its sums out of the registers.
+/// Returns the sums of products of eight rows, from row `k` on, with the second row of a pair, in
+/// the dealt order. It isn't inlined, as the code around it would push its sums out of the
+/// registers.
 #[inline(never)]
 fn dealt_eight(pair: &RowPair<'_>, k: usize) -> [i64; 8]
     requires { HasRows (k + 8) pair.now }
@@ -45,7 +47,7 @@ fn dealt_eight(pair: &RowPair<'_>, k: usize) -> [i64; 8]
     sums
 }
 
-/// The sums of the products of eight rows, from row k on, and the second row of a pair.
+/// Returns the sums of products of eight rows, from row `k` on, with the second row of a pair.
 pub(crate) fn wide_eight(pair: &RowPair<'_>, k: usize) -> [i64; 8]
     requires { HasRows (k + 8) pair.now }
     ensures { (t : ℕ) → t < 8 → value_in result t ≡ pair_dot pair.now (k + t) }

@@ -1,4 +1,5 @@
-//! Convolutions by runs of places of the result.
+//! Convolutions by runs of result places. `WindowDots` is what tensor_kernels puts in a
+//! `Contraction`; its values are defined in specs/WindowDots.
 
 ghost use Rattle.std.specs.Prelude.{◌≡◌, ℕ, ◌*◌, ◌+◌, ◌<◌, ◌≤◌, length, IsTrue};
 ghost use Rattle.std.specs.Cow.{cow_slice_items};
@@ -14,8 +15,8 @@ use crate::lanes::small::are_small;
 use crate::rows::Rows;
 use crate::rows::windows::Windows;
 
-/// An operand as runs, a kernel as one row with a value for each of their offsets, and whether all
-/// values of both fit 32 bits.
+/// An operand as runs, and a kernel as one row with a value for each offset of the runs. `small`
+/// remembers whether all values of both lists fit 32 bits.
 #[derive(Drop)]
 pub struct WindowDots<'a> {
     runs: Windows<'a>,
@@ -30,7 +31,8 @@ pub struct WindowDots<'a> {
 impl<'a> WindowDots<'a> {
     ghost use Rattle.tensor_dots.specs.WindowDots.{window_dots_count, window_dots_value};
 
-    /// The convolution of an operand with a kernel.
+    /// Returns the convolution of an operand with a kernel. Looks at the values of both lists until
+    /// one doesn't fit 32 bits.
     pub fn of(runs: Windows<'a>, kernel: Rows<'a>) -> WindowDots<'a>
         requires one { row_count kernel ≡ 1 }
         requires lengths { window_length runs ≡ row_length kernel }
@@ -47,7 +49,7 @@ impl<'a> WindowDots<'a> {
         }
     }
 
-    /// Writes the values from a place of the result on, run by run.
+    /// Writes the values of the places from `first` on, as many as `out` has room for, run by run.
     pub fn fill(&self, first: usize, out: &mut [i64])
         requires { first + length out.old ≤ window_dots_count self.now }
         ensures len { length out.new ≡ length out.old }
@@ -65,7 +67,7 @@ impl<'a> WindowDots<'a> {
         }
     }
 
-    /// Writes values of a run, from one of its places on.
+    /// Writes values of a run from its place `index` on.
     fn fill_run(&self, run: usize, index: usize, out: &mut [i64])
         requires run { run < length self.now.runs.starts.items }
         requires some { 0 < length out.old }

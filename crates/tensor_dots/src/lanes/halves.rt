@@ -1,6 +1,8 @@
-//! Sums of products by halves: lanes of 64 bits hold the products of the low halves, words of 32
-//! bits those of a low half and a high one. There is no instruction for the whole product of four
-//! lanes, and LLVM makes a longer one of its own.
+//! Lanes of 64-bit numbers, multiplied by halves of 32 bits. Before AVX-512 no instruction
+//! multiplies four lanes of 64 bits, and what LLVM makes of it is longer than this. One accumulator
+//! has the products of the low halves in lanes of 64 bits, the other the crossed products (low
+//! times high) in words of 32 bits. Row sums here and tiles in tensor_kernels go by these;
+//! specs/Halves defines what the two stand for.
 
 ghost use Rattle.std.specs.Prelude.{◌≡◌, ℕ, ◌*◌, ◌+◌, ◌/◌, ◌%◌, ◌≤◌, ◌<◌, ◌^◌, length, pos, ◌+ℤ◌};
 ghost use Rattle.std.specs.Prelude.{◌*ℤ◌};
@@ -11,7 +13,7 @@ ghost use Rattle.tensor_dots.specs.Lanes.{AreLanes};
 
 use std::simd::prelude::*;
 
-/// The words of four numbers, the low one of each first.
+/// Returns four numbers as eight words: of each number the low half, then the high half.
 #[inline(always)]
 fn words(x: i64x4) -> u32x8
     requires { AreLanes x }
@@ -22,7 +24,7 @@ fn words(x: i64x4) -> u32x8
     u32x8::from_le_bytes(x.to_le_bytes())
 }
 
-/// The product of the low halves more, for each of four sums.
+/// Adds the product of the low halves to each of four sums.
 #[inline(always)]
 fn add_low(sums: i64x4, x: i64x4, y: i64x4) -> i64x4
     requires sums { AreLanes sums }
@@ -36,7 +38,9 @@ fn add_low(sums: i64x4, x: i64x4, y: i64x4) -> i64x4
     sums + (x & low) * (y & low)
 }
 
-/// The product of each half and the other one of the other number more.
+/// Adds the crossed products of four pairs of numbers: the low half of `x` times the high half of
+/// `y` to the even words, the high half of `x` times the low half of `y` to the odd ones, modulo
+/// 2^32.
 #[inline(always)]
 fn add_crossed(sums: u32x8, x: i64x4, y: i64x4) -> u32x8
     requires sums { AreWords sums }
@@ -52,7 +56,7 @@ fn add_crossed(sums: u32x8, x: i64x4, y: i64x4) -> u32x8
     sums + x * y.swizzle([1, 0, 3, 2, 5, 4, 7, 6])
 }
 
-/// One product more for each of four sums by halves.
+/// Adds a product to each of four sums that are held by halves, and returns the two accumulators.
 #[inline(always)]
 pub fn add_products(low: i64x4, crossed: u32x8, x: i64x4, y: i64x4) -> (i64x4, u32x8)
     requires low { AreLanes low }
@@ -67,7 +71,7 @@ pub fn add_products(low: i64x4, crossed: u32x8, x: i64x4, y: i64x4) -> (i64x4, u
     (add_low(low, x, y), add_crossed(crossed, x, y))
 }
 
-/// The four values from place i on.
+/// Returns the four values from place `i` on.
 #[inline(always)]
 pub fn rows_from(a: &[i64], i: usize) -> i64x4
     requires { i + 4 ≤ length a.now }
@@ -77,7 +81,7 @@ pub fn rows_from(a: &[i64], i: usize) -> i64x4
     i64x4::from_array([a[i], a[i + 1], a[i + 2], a[i + 3]])
 }
 
-/// The value at place i in all lanes.
+/// Returns the value at place `i` in all four lanes.
 #[inline(always)]
 pub fn spread(b: &[i64], i: usize) -> i64x4
     requires { i < length b.now }
@@ -87,7 +91,8 @@ pub fn spread(b: &[i64], i: usize) -> i64x4
     i64x4::splat(b[i])
 }
 
-/// Stores four rows of a tile, from row 4 j on. The rows before them stay.
+/// Joins the halves of four sums and stores the sums at the places `4 * j` to `4 * j + 3`. Earlier
+/// sums stay as they are.
 #[inline(always)]
 pub fn store(sums: &mut [i64; 16], j: usize, low: i64x4, crossed: u32x8)
     requires four { j < 4 }

@@ -1,5 +1,6 @@
-//! Sums of products in lanes, of numbers that fit 32 bits: two products an instruction, or four on a
-//! processor of wider vectors.
+//! Lanes of numbers that fit 32 bits: an instruction makes two products, or four on a processor
+//! with vectors of 256 bits. Row sums here and tiles in tensor_kernels choose these if `are_small`
+//! of both lists.
 
 ghost use Rattle.std.specs.Prelude.{◌≡◌, ◌↔◌, ℕ, ◌*◌, ◌+◌, ◌≤◌, ◌<◌, length, ◌+ℤ◌, ◌*ℤ◌, IsTrue};
 ghost use Rattle.tensor_shape.specs.Wrap.{wrap};
@@ -8,7 +9,7 @@ ghost use Rattle.tensor_values.specs.Values.{value_in};
 
 use std::simd::prelude::*;
 
-/// Whether all values fit 32 bits.
+/// Returns whether each value fits 32 bits, as `i32` does.
 pub fn are_small(values: &[i64]) -> bool
     ensures { IsTrue result ↔ AreSmall values.now }
 {
@@ -20,7 +21,7 @@ pub fn are_small(values: &[i64]) -> bool
     true
 }
 
-/// One product more for each of four sums.
+/// Adds a product to each of four sums, modulo 2^64.
 #[inline(always)]
 pub fn add_product(sums: i64x4, x: i64x4, y: i64x4) -> i64x4
     requires sums { AreLanes sums }
@@ -33,7 +34,8 @@ pub fn add_product(sums: i64x4, x: i64x4, y: i64x4) -> i64x4
     sums + x * y
 }
 
-/// The four values from place i on. By way of 32 bits, so that their products are of such numbers.
+/// Returns the four values from place `i` on. The casts through `i32` let the compiler use the
+/// instruction that multiplies numbers of 32 bits.
 #[inline(always)]
 pub fn four_from(a: &[i64], i: usize) -> i64x4
     requires small { AreSmall a.now }
@@ -45,7 +47,7 @@ pub fn four_from(a: &[i64], i: usize) -> i64x4
     four.cast::<i32>().cast::<i64>()
 }
 
-/// The value at place i, in all lanes. By way of 32 bits, so that its products are of such numbers.
+/// Returns the value at place `i` in all four lanes, with casts through `i32` as in [`four_from`].
 #[inline(always)]
 pub fn spread_from(b: &[i64], i: usize) -> i64x4
     requires small { AreSmall b.now }
@@ -56,7 +58,7 @@ pub fn spread_from(b: &[i64], i: usize) -> i64x4
     i64x4::splat(b[i]).cast::<i32>().cast::<i64>()
 }
 
-/// Stores four rows of a tile, from row 4 j on. The rows before them stay.
+/// Stores four sums at the places `4 * j` to `4 * j + 3`. Earlier sums stay as they are.
 #[inline(always)]
 pub fn store(sums: &mut [i64; 16], j: usize, lanes: i64x4)
     requires four { j < 4 }

@@ -1,11 +1,12 @@
-//! Some rows of an operand, with some of the values of each.
+//! Some rows of an operand, with some of the values of each. tensor_kernels packs and sums such
+//! parts.
 
 ghost use Rattle.std.specs.Prelude.{◌<◌, ◌≤◌, ◌^◌, length};
 ghost use Rattle.tensor_shape.specs.Legal.{most_elements};
 ghost use Rattle.tensor_dots.specs.Inside.{AreInside};
 
-/// The rows that begin at these places of a list. Value q of each lies at its start, moved by
-/// offset q.
+/// Borrowed rows of a list, given by their starts. Value `q` of a row lies at its start, moved by
+/// offset `q`.
 #[derive(Clone, Copy, Drop)]
 pub struct RowsPart<'a> {
     pub values: &'a [i64],

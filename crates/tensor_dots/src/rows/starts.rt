@@ -1,11 +1,12 @@
-//! Rows that begin side by side.
+//! Rows that begin side by side, found by their starts. tensor_kernels packs rows by this too.
 
 ghost use Rattle.std.specs.Prelude.{◌≡◌, ◌≢◌, ℕ, ◌+◌, ◌<◌, ◌≤◌, length, slice_index};
 
-/// The most rows whose starts are looked at before they are passed.
+/// The most rows that one call looks at.
 const TOGETHER: usize = 1024;
 
-/// How many rows from row k on begin side by side, up to as many as are passed together.
+/// Returns how many rows from row `k` on begin side by side: itself, and those whose starts follow
+/// one by one. It is 1,024 at most, though more may follow.
 pub fn side_by_side(starts: &[usize], k: usize) -> usize
     requires { k < length starts.now }
     ensures some { 0 < result }

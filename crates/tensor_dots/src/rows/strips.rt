@@ -1,4 +1,5 @@
-//! Lists as rows whose values lie side by side.
+//! Rows that are slices of a list. The operands of `StripDots`; their values are defined in
+//! specs/Strips.
 
 ghost use Rattle.std.specs.Prelude.{◌≡◌, ◌<◌, ◌≤◌, ◌+◌, ℕ, length, slice_index};
 ghost use Rattle.std.specs.Cow.{cow_slice_items};
@@ -8,7 +9,7 @@ ghost use Rattle.tensor_values.specs.Values.{value_in};
 use std::alloc::Global;
 use std::borrow::CowSlice;
 
-/// A list as rows of one width, which begin at their starts. No row is empty.
+/// A list as rows of one width. Row `x` is the slice from its start on. No row is empty.
 #[derive(Drop)]
 pub struct Strips<'a> {
     pub values: CowSlice<'a, i64, Global>,
@@ -23,7 +24,7 @@ pub struct Strips<'a> {
 impl<'a> Strips<'a> {
     ghost use Rattle.tensor_dots.specs.Strips.{strip_count, strip_length, strip_value};
 
-    /// A list as rows of this width, which begin at these places.
+    /// Returns a list as rows of the given width, which begin at the given places.
     pub fn new(values: CowSlice<'a, i64, Global>, starts: Vec<usize>, width: usize) -> Strips<'a>
         requires inside { (x q : ℕ) → x < length starts.items → q < width
             → slice_index starts.items x + q < length (cow_slice_items values) }
@@ -41,7 +42,7 @@ impl<'a> Strips<'a> {
         }
     }
 
-    /// Row x.
+    /// Returns row `x`.
     #[inline(always)]
     pub(crate) fn row(&self, x: usize) -> &[i64]
         requires { x < strip_count self.now }

@@ -1,5 +1,5 @@
-//! Lists as runs of equally many places, for which what lies under a place of a kernel lies side by
-//! side.
+//! The operand of a convolution as runs of result places. The operand of `WindowDots`; its values
+//! are defined in specs/Windows.
 
 ghost use Rattle.std.specs.Prelude.{◌≡◌, ◌<◌, ◌≤◌, ◌+◌, ◌*◌, ◌/◌, ◌%◌, ℕ, length, slice_index};
 ghost use Rattle.std.specs.Cow.{cow_slice_items};
@@ -9,8 +9,9 @@ ghost use Rattle.tensor_values.specs.Values.{value_in};
 use std::alloc::Global;
 use std::borrow::CowSlice;
 
-/// A list as runs of equally many places of a result. What lies under place q of a kernel begins at
-/// the run's start, moved by offset q.
+/// A list that a kernel slides over, cut in runs of `width` result places. In a run the value under
+/// place `q` of the kernel lies at the run's start, moved by the place in the run and by offset
+/// `q`.
 #[derive(Drop)]
 pub struct Windows<'a> {
     pub values: CowSlice<'a, i64, Global>,
@@ -27,8 +28,8 @@ pub struct Windows<'a> {
 impl<'a> Windows<'a> {
     ghost use Rattle.tensor_dots.specs.Windows.{window_count, window_length, window_value};
 
-    /// A list as runs of this width, which begin at these places, with what lies under the kernel's
-    /// places moved by these offsets.
+    /// Returns a list as runs of the given width: a start for each run, and an offset for each
+    /// place of the kernel.
     pub fn new(
         values: CowSlice<'a, i64, Global>,
         starts: Vec<usize>,

@@ -16,25 +16,25 @@ use Rattle.tensor_kernels.specs.declared.panels.height.Height.TheVariants.{Sixte
 use Rattle.tensor_dots.specs.declared.rows.Rows.{Rows}
 use Rattle.tensor_kernels.specs.declared.tiling.Packing.{Packing}
 
--- how many rows a panel has
+-- the number of rows of a panel
 abbrev pub height_of : Height → ℕ
 height_of Sixteen = 16
 height_of Four = 4
 
--- so many panels of a height, whose rows have n values, can be multiplied: they hold numbers of 32
--- bits, or have the sums of their rows' pairs beside them
+-- the given number of panels of h rows, with n values a row, can be multiplied: their numbers fit
+-- 32 bits, or the sums of their rows' pairs are beside them
 abbrev pub AreReady : Bool → ℕ → ℕ → ℕ → Panels → Type 0
 AreReady true h panels n a = AreSmall a.cells.items
 AreReady false h panels n a =
     (panels * h ≤ length a.sums.items) × ArePairSums h a.sums.items a.cells.items n
 
--- cells are those of rows of values, in whole panels: each row has a value for each of the offsets
+-- cells hold rows of values in whole panels: each row has a value for each of the offsets
 abbrev pub HoldsRows : ℕ → List ℤ → List ℤ → List ℕ → List ℕ → Type 0
 HoldsRows h cells values rows offsets =
     (length cells ≡ div_ceil (length rows) h * (length offsets * h))
     × AreCells h cells values rows offsets
 
--- panels are those of chunk c of an operand
+-- panels hold chunk c of an operand
 abbrev pub IsChunk : Packing → Rows → ℕ → Panels → Type 0
 IsChunk packing rows c panels =
     HoldsRows (height_of packing.height) panels.cells.items (cow_slice_items rows.values)
@@ -43,12 +43,12 @@ IsChunk packing rows c panels =
     (div_ceil (row_count rows) (height_of packing.height))
     (length (chunk rows.offsets.items c)) panels
 
--- and each in a list is that of its chunk
+-- each panels in a list hold the chunk of their number
 abbrev pub AreChunks : Packing → Rows → List Panels → Type 0
 AreChunks packing rows chunks = (c : ℕ) (panels : Panels) → c < length chunks
     → get_or chunks c panels ≡ panels → IsChunk packing rows c panels
 
--- which is known in one way only, as are its parts
+-- AreChunks is a proposition, and so are its parts
 AreReady-prop : (small : Bool) (h k n : ℕ) (panels : Panels) → IsProp (AreReady small h k n panels)
 AreReady-prop true h k n panels = Π_prop λ k. Π_prop λ below. SFits-prop _ _
 AreReady-prop false h k n panels =

@@ -9,21 +9,21 @@ use Rattle.tensor_kernels.specs.Panels.{cell_of}
 use Rattle.tensor_dots.specs.Products.{dot}
 use Rattle.tensor_kernels.specs.declared.tiling.packed_chunk.PackedChunk.{PackedChunk}
 
--- the sum of its products for a row and a column
+-- the sum of the chunk's products for row x and column y
 abbrev pub tile_sum : PackedChunk → ℕ → ℕ → ℤ
 tile_sum chunk x y =
     dot (cell_of (height_of chunk.height) chunk.first.now.cells.items chunk.products x)
     (cell_of 1 chunk.second.now.cells.items chunk.products y) chunk.products
 
--- the same for the row and the column of a place of the band
+-- the sum of the chunk's products for the row and the column of place p of the band
 abbrev pub chunk_sum : PackedChunk → ℕ → ℤ
 chunk_sum chunk p = tile_sum chunk (p % chunk.rows) (p / chunk.rows)
 
--- the panel of that row
+-- the panel of the row of place p of the band
 abbrev pub panel_at : PackedChunk → ℕ → ℕ
 panel_at chunk p = p % chunk.rows / height_of chunk.height
 
--- there are panels for all rows and all columns, which can be multiplied
+-- there are panels for all rows and all columns, and they can be multiplied
 pub record IsPacked (chunk : PackedChunk) : Type 0 where
   pub few_rows : chunk.rows ≤ most_elements
   pub few_columns : chunk.columns ≤ 512
@@ -35,18 +35,19 @@ pub record IsPacked (chunk : PackedChunk) : Type 0 where
       (div_ceil chunk.rows (height_of chunk.height)) chunk.products chunk.first.now
   pub other : AreReady chunk.small 1 chunk.columns chunk.products chunk.second.now
 
--- what stands at a place of the band where its sum was put, or added
+-- the value at place p of the band after the chunk's sum was added to old, or put there
 abbrev pub put_value : PackedChunk → ℕ → ℤ → ℤ
 put_value chunk p old = wrap (before chunk.number old +ℤ chunk_sum chunk p)
 
--- at a place of the band stands a new value for an old one: the sum is put where it is of panel s
--- and column j, and else it is the old one
+-- what a tile does to place p of the band, which changes from old to new: the sum is added if the
+-- place is in panel s and column j, or else the value stays
 pub record IsPutInTile (chunk : PackedChunk) (s j p : ℕ) (old new : ℤ) : Type 0 where
   pub within : panel_at chunk p ≡ s → p / chunk.rows ≡ j → new ≡ put_value chunk p old
   pub other : panel_at chunk p ≢ s → new ≡ old
   pub elsewhere : p / chunk.rows ≢ j → new ≡ old
 
--- the same of panel s and any column
+-- what a panel does to place p of the band: the sum is added if the place is in panel s, in any
+-- column
 pub record IsPutInPanel (chunk : PackedChunk) (s p : ℕ) (old new : ℤ) : Type 0 where
   pub within : panel_at chunk p ≡ s → new ≡ put_value chunk p old
   pub other : panel_at chunk p ≢ s → new ≡ old

@@ -1,15 +1,15 @@
--- How an operand is cut into quarters: its rows in two halves, and two chunks of their products.
+-- How an operand is cut into quarters: its rows in two halves, and its values in two chunks.
 use Rattle.std.specs.Prelude.{◌≡◌, ℕ, ℤ, ◌+◌, ◌*◌, ◌<◌, List, length, slice_index}
 use Rattle.tensor_values.specs.Values.{value_in}
 use Rattle.tensor_kernels.specs.Panels.{cell_of}
 use Rattle.tensor_dots.specs.declared.rows.part.RowsPart.{RowsPart}
 use Rattle.tensor_kernels.specs.declared.tiling.strassen.half.Half.{Half}
 
--- how many cells a quarter has
+-- the number of cells of a quarter
 abbrev pub half_size : Half → ℕ
 half_size half = half.panels * (128 * half.height)
 
--- cells in panels of a height are those of rows in a chunk of their products, which is whole
+-- cells hold, in panels of h rows, the values of a part's rows in chunk c, which is whole
 abbrev pub HasChunk : ℕ → List ℤ → RowsPart → ℕ → Type 0
 HasChunk h cells part c = (x q : ℕ) → x < length part.starts.now → q < 128
     → cell_of h cells 128 x q ≡ value_in part.values.now

@@ -1,6 +1,6 @@
--- Two chunks of the products at once, by seven products of halves for eight (Strassen 1969). Of the
--- rows of each operand there are two halves, and of their values two chunks: so a result of two
--- times two parts is made of two times four quarters.
+-- Two chunks of the products at once, by seven products of halves instead of eight (Strassen 1969).
+-- Each operand has two halves of rows and two chunks of values, which are four quarters. The result
+-- has two halves of rows and two halves of columns.
 use Rattle.std.specs.Prelude.{◌≡◌, ◌≢◌, ℕ, zero, suc, ℤ, ◌+ℤ◌, ◌-ℤ◌, ◌+◌, ◌*◌, ◌/◌, ◌%◌, ◌<◌, ◌≤◌}
 use Rattle.std.specs.Prelude.{List, length, false}
 use Rattle.tensor_shape.specs.Legal.{most_elements}
@@ -23,31 +23,32 @@ use Rattle.tensor_kernels.specs.declared.tiling.strassen.quarters.Quarter.TheVar
 use Rattle.tensor_kernels.specs.declared.tiling.strassen.quarters.Quarter.TheVariants.{SecondLater}
 use Rattle.tensor_kernels.specs.declared.tiling.strassen.quarters.Quarters.{Quarters}
 
--- a cell of a quarter: the second half's lie behind the first's
+-- cell p of a quarter: the second half's cells lie behind the first half's
 abbrev pub cell : Quarters → Quarter → ℕ → ℤ
 cell q FirstEarlier p = value_in q.earlier.items p
 cell q FirstLater p = value_in q.later.items p
 cell q SecondEarlier p = value_in q.earlier.items (half_size q.half + p)
 cell q SecondLater p = value_in q.later.items (half_size q.half + p)
 
--- so many panels of a height, with 128 values a row, that can be multiplied
+-- the given number of panels, with 128 values a row, that can be multiplied
 pub record IsPanels (height panels : ℕ) (a : Panels) : Type 0 where
   pub len : length a.cells.items ≡ panels * (128 * height)
   pub ready : AreReady false height panels 128 a
 
--- panels whose cells are these numbers, modulo 2^64
+-- panels whose cells are the numbers f, modulo 2^64
 pub record IsFactor (half : Half) (a : Panels) (f : ℕ → ℤ) : Type 0 where
   pub panels : IsPanels half.height half.panels a
   pub each : (p : ℕ) → p < half_size half → wrap (value_in a.cells.items p) ≡ wrap (f p)
 
--- the sum of two quarters, and what one has more than another
+-- cell p of the sum of two quarters
 abbrev pub sum_of : Quarters → Quarter → Quarter → ℕ → ℤ
 sum_of q x y p = cell q x p +ℤ cell q y p
 
+-- cell p of the difference of two quarters
 abbrev pub difference_of : Quarters → Quarter → Quarter → ℕ → ℤ
 difference_of q x y p = cell q x p -ℤ cell q y p
 
--- what each of the seven products takes of the first operand
+-- the first operand's factor of each of the seven products
 pub record AreFirstFactors (q : Quarters) (f : Factors) : Type 0 where
   pub m1 : IsFactor q.half f.m1 (sum_of q FirstEarlier SecondLater)
   pub m2 : IsFactor q.half f.m2 (sum_of q SecondEarlier SecondLater)
@@ -57,7 +58,7 @@ pub record AreFirstFactors (q : Quarters) (f : Factors) : Type 0 where
   pub m6 : IsFactor q.half f.m6 (difference_of q SecondEarlier FirstEarlier)
   pub m7 : IsFactor q.half f.m7 (difference_of q FirstLater SecondLater)
 
--- and of the second
+-- the second operand's factor of each of the seven products
 pub record AreSecondFactors (q : Quarters) (f : Factors) : Type 0 where
   pub m1 : IsFactor q.half f.m1 (sum_of q FirstEarlier SecondLater)
   pub m2 : IsFactor q.half f.m2 (cell q FirstEarlier)
@@ -67,7 +68,7 @@ pub record AreSecondFactors (q : Quarters) (f : Factors) : Type 0 where
   pub m6 : IsFactor q.half f.m6 (sum_of q FirstEarlier SecondEarlier)
   pub m7 : IsFactor q.half f.m7 (sum_of q FirstLater SecondLater)
 
--- all factors of an operand, as panels
+-- the factors of an operand all are panels that can be multiplied
 pub record ArePanels (height panels : ℕ) (f : Factors) : Type 0 where
   pub m1 : IsPanels height panels f.m1
   pub m2 : IsPanels height panels f.m2
@@ -77,18 +78,19 @@ pub record ArePanels (height panels : ℕ) (f : Factors) : Type 0 where
   pub m6 : IsPanels height panels f.m6
   pub m7 : IsPanels height panels f.m7
 
--- the sum of the products of one of sixteen rows and a column
+-- the sum of products of row k % 16 and column k / 16
 abbrev pub product_sum : Panels → Panels → ℕ → ℤ
 product_sum a b k =
     dot (cell_of 16 a.cells.items 128 (k % 16)) (cell_of 1 b.cells.items 128 (k / 16)) 128
 
--- at the values of a product stand new ones for old ones: its sums for all rows and n columns, column
--- by column, are put there, or added
+-- a product's values change from old to new: for each of sixteen rows and n columns, column by
+-- column, the sum of products is added, or put there by pair 0
 pub record IsProductAdded (pair : ℕ) (a b : Panels) (n : ℕ) (old new : List ℤ) : Type 0 where
   pub len : length new ≡ 16 * n
   pub each : (k : ℕ) → k < 16 * n
       → value_in new k ≡ wrap (before pair (value_in old k) +ℤ product_sum a b k)
 
+-- all seven products are added
 pub record AreAdded (pair : ℕ) (a b : Factors) (n : ℕ) (old new : Products) : Type 0 where
   pub m1 : IsProductAdded pair a.m1 b.m1 n old.m1.items new.m1.items
   pub m2 : IsProductAdded pair a.m2 b.m2 n old.m2.items new.m2.items
@@ -98,7 +100,7 @@ pub record AreAdded (pair : ℕ) (a b : Factors) (n : ℕ) (old new : Products) 
   pub m6 : IsProductAdded pair a.m6 b.m6 n old.m6.items new.m6.items
   pub m7 : IsProductAdded pair a.m7 b.m7 n old.m7.items new.m7.items
 
--- each of them has as many values
+-- each of the seven products has n values
 pub record AreLong (n : ℕ) (p : Products) : Type 0 where
   pub m1 : length p.m1.items ≡ n
   pub m2 : length p.m2.items ≡ n
@@ -108,8 +110,8 @@ pub record AreLong (n : ℕ) (p : Products) : Type 0 where
   pub m6 : length p.m6.items ≡ n
   pub m7 : length p.m7.items ≡ n
 
--- how the products make up a value of one of the four quadrants of the result: of the first half of
--- the rows or the second, and of the first half of the columns or the second
+-- how the products make up a value of one of the four quadrants of the result: the first or second
+-- half of the rows, and the first or second half of the columns
 abbrev pub quadrant_sum : ℕ → ℕ → (m1 m2 m3 m4 m5 m6 m7 : ℤ) → ℤ
 quadrant_sum zero zero m1 m2 m3 m4 m5 m6 m7 = ((m1 +ℤ m4) +ℤ m7) -ℤ m5
 quadrant_sum zero (suc s) m1 m2 m3 m4 m5 m6 m7 = m3 +ℤ m5
@@ -122,14 +124,14 @@ quadrant_value p r s k =
     quadrant_sum r s (value_in p.m1.items k) (value_in p.m2.items k) (value_in p.m3.items k)
     (value_in p.m4.items k) (value_in p.m5.items k) (value_in p.m6.items k) (value_in p.m7.items k)
 
--- what products make up at a place of a band of so many rows, of whose columns the first half are so
--- many
+-- what products make up at place p of a band, whose columns have the given number of rows, and
+-- whose first half has the given number of columns
 abbrev pub sum_at : ℕ → ℕ → Products → ℕ → ℤ
 sum_at rows half products p =
     quadrant_value products (p % rows / 16 % 2) (p / rows / half)
     (16 * (p / rows % half) + p % rows % 16)
 
--- the value of a block at a place of the band
+-- the sum of a block at place p of the band
 abbrev pub block_sum : Block → ℕ → ℤ
 block_sum block p = sum_at block.rows block.half block.products.now p
 
@@ -142,26 +144,26 @@ pub record IsBlock (block : Block) : Type 0 where
   pub few : block.half ≤ 256
   pub long : AreLong (16 * block.half) block.products.now
 
--- what stands at a place where its sum was put, or added
+-- the value at place p after the block's sum was added to old, or put there
 abbrev pub block_value : Block → ℕ → ℤ → ℤ
 block_value block p old = wrap (before block.number old +ℤ block_sum block p)
 
--- at a place stands a new value for an old one: the sum is put where its row is of panel r of the
--- block and its column is j, and else it is the old one
+-- what panel r of a block in column j does to place p, which changes from old to new: the sum is
+-- added if the place is in both, or else the value stays
 pub record IsPutInPanel (block : Block) (r j p : ℕ) (old new : ℤ) : Type 0 where
   pub within : p % block.rows / 16 ≡ 2 * block.block + r → p / block.rows ≡ j
       → new ≡ block_value block p old
   pub other : p % block.rows / 16 ≢ 2 * block.block + r → new ≡ old
   pub elsewhere : p / block.rows ≢ j → new ≡ old
 
--- the same of either panel
+-- what both panels of a block in column j do to place p
 pub record IsPutInColumn (block : Block) (j p : ℕ) (old new : ℤ) : Type 0 where
   pub within : p % block.rows / 32 ≡ block.block → p / block.rows ≡ j
       → new ≡ block_value block p old
   pub other : p % block.rows / 32 ≢ block.block → new ≡ old
   pub elsewhere : p / block.rows ≢ j → new ≡ old
 
--- and of any column
+-- what a block does to place p, in any column
 pub record IsPutInBlock (block : Block) (p : ℕ) (old new : ℤ) : Type 0 where
   pub within : p % block.rows / 32 ≡ block.block → new ≡ block_value block p old
   pub other : p % block.rows / 32 ≢ block.block → new ≡ old

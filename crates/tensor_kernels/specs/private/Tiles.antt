@@ -1,4 +1,4 @@
--- Tiles: the rows of one panel in one column of a band. Place p of a band is of row p % rows and of
+-- Tiles: the rows of one panel in one column of a band. Place p of a band is in row p % rows and in
 -- column p / rows.
 use Rattle.std.specs.Prelude.{◌≡◌, ◌≢◌, ℕ, ℤ, ◌+ℤ◌, ◌+◌, ◌*◌, ◌-◌, ◌/◌, ◌%◌, List, min}
 use Rattle.tensor_shape.specs.Wrap.{wrap}
@@ -7,23 +7,23 @@ use Rattle.tensor_kernels.specs.private.Cells.{height_of}
 use Rattle.tensor_kernels.specs.Chunks.{before}
 use Rattle.tensor_kernels.specs.declared.tiling.placing.Tile.{Tile}
 
--- where a tile's rows begin
+-- the place at which a tile begins
 abbrev pub start_of : Tile → ℕ
 start_of tile = tile.column * tile.rows + tile.panel * height_of tile.height
 
--- and where they end: after the panel, or with the column
+-- the place at which a tile ends: after the panel, or with the column
 abbrev pub end_of : Tile → ℕ
 end_of tile =
     let height = height_of tile.height in
     start_of tile + min height (tile.rows - tile.panel * height)
 
--- a place is of one of its rows
+-- place p is one of the tile's
 abbrev pub IsAmong : Tile → ℕ → Type 0
 IsAmong tile p =
     (p % tile.rows / height_of tile.height ≡ tile.panel) × (p / tile.rows ≡ tile.column)
 
--- at a place stands a new value for an old one: the sum of its row is put, or added, where it is one
--- of the tile's, and else it is the old one
+-- what a tile does to place p, which changes from old to new: the sum of its row is added if the
+-- place is one of the tile's, or else the value stays
 pub record IsPut (tile : Tile) (c : ℕ) (sums : List ℤ) (p : ℕ) (old new : ℤ) : Type 0 where
   pub within : p % tile.rows / height_of tile.height ≡ tile.panel → p / tile.rows ≡ tile.column
       → new ≡ wrap (before c old

@@ -1,13 +1,15 @@
-//! Where the products of a contraction are cut into chunks, whose panels stay in the caches while
-//! they are used.
+//! Where the products of a contraction are cut into chunks, so that packed panels stay in the
+//! caches while they are used. The width is in specs/Chunks and in the proofs of `tiling` too.
 
 ghost use Rattle.std.specs.Prelude.{◌≡◌, ◌*◌, ◌+◌, ◌<◌, ◌≤◌, ◌^◌};
 ghost use Rattle.tensor_kernels.specs.Chunks.{chunk};
 
-/// The products of a chunk, but for the last one: of these a panel of sixteen rows has 16 KB.
+/// The number of products in each chunk but the last, which may have fewer. A panel of sixteen rows
+/// of a chunk takes 16 KB.
 const CHUNK: usize = 128;
 
-/// How many chunks so many products are cut into. No products are one chunk of none.
+/// Returns the number of chunks that the given number of products is cut into. If there are no
+/// products there is one empty chunk.
 pub(crate) fn chunk_count(products: usize) -> usize
     ensures some { 0 < result }
     ensures few { result ≤ products + 1 }
@@ -16,7 +18,7 @@ pub(crate) fn chunk_count(products: usize) -> usize
     products.div_ceil(CHUNK).max(1)
 }
 
-/// The offsets of chunk c of the products.
+/// Returns the offsets of chunk `c` of the products.
 pub(crate) fn chunk_of(offsets: &[usize], c: usize) -> &[usize]
     requires { c < 2 ^ 32 }
     ensures { result.now ≡ chunk offsets.now c }

@@ -1,9 +1,10 @@
-//! How high panels of rows are.
+//! The heights that panels of the first operand can have. A new one needs a tile function in
+//! `tiling::small` and in `tiling::pairs`.
 
 ghost use Rattle.std.specs.Prelude.{◌≡◌, ◌<◌, ◌≤◌};
 
-/// How many rows a panel of the first operand has: sixteen, or four where so few rows would leave
-/// panels of sixteen too empty.
+/// How many rows a panel of the first operand has: sixteen, or four if panels of sixteen would have
+/// too many repeated rows.
 #[derive(Clone, Copy, Drop)]
 pub(crate) enum Height {
     Sixteen,
@@ -13,7 +14,8 @@ pub(crate) enum Height {
 impl Height {
     ghost use Rattle.tensor_kernels.specs.private.Cells.{height_of};
 
-    /// The height for so many rows. A panel of four takes a third longer for each of its rows.
+    /// Returns the height to use for the given number of rows. A row in a panel of four takes a
+    /// third longer than one in a panel of sixteen.
     pub(crate) fn for_rows(rows: usize) -> Height {
         if 3 * rows.div_ceil(16) <= rows.div_ceil(4) {
             Height::Sixteen
@@ -22,7 +24,7 @@ impl Height {
         }
     }
 
-    /// Its number of rows.
+    /// Returns the number of rows of a panel.
     pub(crate) fn rows(self) -> usize
         ensures { result ≡ height_of self }
     {

@@ -1,4 +1,5 @@
-//! The rows of an operand, brought into panels.
+//! Copies rows of an operand into panels. `Panels` and the quarters of `tiling::strassen` are made
+//! by this; specs/Panels defines where each value lies.
 
 ghost use Rattle.std.specs.Prelude.{◌≡◌, ℕ, ◌*◌, ◌+◌, ◌-◌, ◌<◌, ◌≤◌, ◌++◌};
 ghost use Rattle.std.specs.Prelude.{length, map, min, slice_index, vec_len, vec_capacity};
@@ -10,8 +11,8 @@ ghost use Rattle.tensor_values.specs.Values.{value_in};
 use std::alloc::{AllocError, Global};
 use tensor_dots::{RowsPart, side_by_side};
 
-/// The rows of an operand in panels of a height. Row x has the values at its start, moved by each
-/// of the offsets. In the last panel the last row stands again where there is none.
+/// Returns the rows of an operand in panels of `height` rows. The last panel is filled up with
+/// copies of the last row.
 pub(crate) fn packed(
     alloc: Global,
     part: &RowsPart<'_>,
@@ -38,7 +39,7 @@ pub(crate) fn packed(
     Ok(packed)
 }
 
-/// So many starts: past the last row that one's.
+/// Returns the starts, extended to `count` of them by copies of the last one.
 pub(crate) fn padded(
     alloc: Global,
     starts: &[usize],
@@ -56,8 +57,8 @@ pub(crate) fn padded(
     Ok(padded)
 }
 
-/// Appends panel p, whose rows have these starts. For the heights that there are the loop stands by
-/// itself, so that the one over the starts is none.
+/// Appends panel `p`, whose rows have the given starts. The arms are alike, so that the compiler
+/// makes a copy of [`push_panel`] for each height and unrolls its loop over the starts.
 fn pack_panel(packed: &mut Vec<i64>, part: &RowsPart<'_>, p: usize, starts: &[usize])
     requires some { 0 < length starts.now }
     requires low { length starts.now ≤ 16 }
@@ -84,7 +85,7 @@ fn pack_panel(packed: &mut Vec<i64>, part: &RowsPart<'_>, p: usize, starts: &[us
     }
 }
 
-/// The same for any height.
+/// Appends panel `p`, for any height.
 #[inline(always)]
 fn push_panel(packed: &mut Vec<i64>, part: &RowsPart<'_>, p: usize, starts: &[usize])
     requires some { 0 < length starts.now }
@@ -111,7 +112,7 @@ fn push_panel(packed: &mut Vec<i64>, part: &RowsPart<'_>, p: usize, starts: &[us
     }
 }
 
-/// Whether starts are of several rows, all of which begin side by side.
+/// Returns whether there are several starts, and all follow one by one.
 #[inline(always)]
 fn are_together(starts: &[usize]) -> bool
     requires { length starts.now ≤ 16 }
@@ -123,8 +124,8 @@ fn are_together(starts: &[usize]) -> bool
     starts.len() > 1 && side_by_side(starts, 0) == starts.len()
 }
 
-/// Appends the values at places, moved by an offset. Those of rows that begin side by side are one
-/// run.
+/// Appends the value at each start, moved by an offset. If `run` is true the starts follow one by
+/// one, and the values are copied at once.
 #[inline(always)]
 fn push_values(packed: &mut Vec<i64>, values: &[i64], starts: &[usize], offset: usize, run: bool)
     requires run { IsTrue run → (j : ℕ) → j < length starts.now
@@ -165,7 +166,7 @@ fn push_run(packed: &mut Vec<i64>, values: &[i64], starts: &[usize], offset: usi
     };
 }
 
-/// Appends the values at places, moved by an offset.
+/// Appends the value at each start, moved by an offset.
 #[inline(always)]
 fn push_at(packed: &mut Vec<i64>, values: &[i64], starts: &[usize], offset: usize)
     requires inside { (j : ℕ) → j < length starts.now

@@ -1,4 +1,5 @@
-//! What products two by two take off: of each row of panels the sum of the products of its pairs.
+//! Sums of the products of each row's own pairs, which products two by two have too much.
+//! `tiling::pairs` takes them off; specs/private/Pairs defines the sums.
 
 ghost use Rattle.std.specs.Prelude.{◌≡◌, ℕ, ◌*◌, ◌+◌, ◌%◌, ◌<◌, ◌≤◌, ◌^◌, length, IfOk, vec_len};
 ghost use Rattle.tensor_shape.specs.Wrap.{wrap};
@@ -12,8 +13,8 @@ use std::simd::prelude::*;
 use tensor_dots::lanes::halves::{add_products, rows_from, store};
 use tensor_dots::lanes::mul_add;
 
-/// The sums of the rows of so many panels of a height, whose rows have n values each. Takes a number
-/// for each row.
+/// Returns the sum of the products of its pairs for each row of the given panels. Each row has `n`
+/// values. Takes a number for each row.
 pub(crate) fn pair_sums(
     alloc: Global,
     cells: &[i64],
@@ -38,7 +39,8 @@ pub(crate) fn pair_sums(
     Ok(sums)
 }
 
-/// The same of panels whose height is a multiple of four, four rows at a time.
+/// Returns the sum of the products of its pairs for each row of the given panels, four rows at a
+/// time. The height is a multiple of four.
 fn pair_sums_by_fours(
     alloc: Global,
     cells: &[i64],
@@ -65,8 +67,8 @@ fn pair_sums_by_fours(
     Ok(sums)
 }
 
-/// The sum of the products of the first n pairs of a row whose values lie a height apart, from a
-/// place on.
+/// Returns the sum of the products of the first `n` pairs of a row. The row's values lie `height`
+/// places apart, from `start` on.
 fn sum_of_pairs(cells: &[i64], start: usize, height: usize, n: usize) -> i64
     requires some { 0 < height }
     requires inside { (q : ℕ) → q < 2 * n → height * q + start < length cells.now }
@@ -83,7 +85,8 @@ fn sum_of_pairs(cells: &[i64], start: usize, height: usize, n: usize) -> i64
     sum
 }
 
-/// The same of four rows side by side, of which the first begins at the place, and what is there.
+/// Returns the sums of the products of the first `n` pairs of four rows side by side, the first of
+/// which begins at `start`. The other twelve numbers mean nothing.
 fn own_of_four(cells: &[i64], start: usize, height: usize, n: usize) -> [i64; 16]
     requires some { 0 < height }
     requires inside { (q : ℕ) → q < 2 * n → height * q + (start + 3) < length cells.now }

@@ -1,6 +1,6 @@
-//! A chunk of the products of a band of columns, whose operands are packed: its sums are written
-//! tile by tile. A panel of the first operand's rows stays in the nearest cache while all columns
-//! of the band go past it.
+//! A chunk of the products of a band of columns, with both operands packed. The sums are written
+//! tile by tile. A panel of the first operand stays in the nearest cache while it is multiplied
+//! with all columns of the band. specs/private/PackedChunks defines the sums.
 
 ghost use Rattle.std.specs.Prelude.{◌≡◌, ℕ, ◌*◌, ◌+◌, ◌<◌, ◌≤◌, ◌+ℤ◌, length};
 ghost use Rattle.tensor_shape.specs.Wrap.{wrap};
@@ -14,18 +14,18 @@ use crate::tiling::pairs::Panel;
 use crate::tiling::placing::Tile;
 use crate::tiling::tile::{small_tile, wide_tile};
 
-/// A chunk of the products of all rows of the result and some of its columns.
+/// A chunk of the products of all rows of the result and the columns of a band.
 #[derive(Drop)]
 pub(crate) struct PackedChunk<'a> {
-    /// Which one. The sums of chunk 0 are put where they belong, those of later ones added.
+    /// The chunk's number. The sums of chunk 0 overwrite, the sums of later ones are added.
     pub(crate) number: usize,
-    /// How many products it has.
+    /// The number of products.
     pub(crate) products: usize,
     pub(crate) rows: usize,
     pub(crate) columns: usize,
-    /// How high the panels of the first operand are. A column is a panel of one row.
+    /// The height of the first operand's panels. A column is a panel of one row.
     pub(crate) height: Height,
-    /// Whether all numbers fit 32 bits.
+    /// Whether all numbers of both operands fit 32 bits.
     pub(crate) small: bool,
     pub(crate) first: &'a Panels,
     pub(crate) second: &'a Panels,
@@ -35,7 +35,7 @@ impl PackedChunk<'_> {
     ghost use Rattle.tensor_kernels.specs.private.PackedChunks.{chunk_sum, tile_sum, IsPacked};
     ghost use Rattle.tensor_kernels.specs.private.PackedChunks.{IsPutInTile, IsPutInPanel};
 
-    /// Writes the sums of the products to places of the columns, from one on.
+    /// Adds the sums of the chunk to the places of the band from `from` on. Chunk 0 overwrites.
     pub(crate) fn put(&self, from: usize, out: &mut [i64])
         requires packed { IsPacked self.now }
         requires inside { from + length out.old ≤ self.now.columns * self.now.rows }
@@ -48,7 +48,7 @@ impl PackedChunk<'_> {
         }
     }
 
-    /// Writes the sums of a panel's rows, column by column. All else stays.
+    /// Writes the sums of panel `s`, column by column. Other places stay as they are.
     fn put_panel(&self, s: usize, from: usize, out: &mut [i64])
         requires packed { IsPacked self.now }
         requires panel { s * height_of self.now.height < self.now.rows }
@@ -64,7 +64,7 @@ impl PackedChunk<'_> {
         }
     }
 
-    /// Writes the sums of a panel's rows and a column. All else stays.
+    /// Writes the sums of panel `s` and column `j`. Other places stay as they are.
     fn put_tile(&self, s: usize, j: usize, from: usize, out: &mut [i64])
         requires packed { IsPacked self.now }
         requires panel { s * height_of self.now.height < self.now.rows }
@@ -85,7 +85,7 @@ impl PackedChunk<'_> {
         }
     }
 
-    /// The sums of the products of each row of panel s and column j, modulo 2^64.
+    /// Returns the sum of products of each row of panel `s` with column `j`, modulo 2^64.
     pub(crate) fn tile(&self, s: usize, j: usize) -> [i64; 16]
         requires packed { IsPacked self.now }
         requires panel { s * height_of self.now.height < self.now.rows }

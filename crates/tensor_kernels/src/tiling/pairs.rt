@@ -1,7 +1,8 @@
-//! Sums of products of a panel's rows and a column, two products at a time: half the products, and
-//! two sums of numbers more for each. In one iteration four numbers of each row are read as they
-//! lie, and two of the column spread. What a row and the column have by themselves is taken off
-//! before the first product, where it takes no pass of its own over the sums.
+//! Tiles by products two by two: `(x0 + y1) * (x1 + y0)` is `x0 * y0 + x1 * y1` plus a product of
+//! the row's own pair and one of the column's. So there are half as many products, and two sums
+//! more for each. What a row and a column have by themselves is taken off before the first product,
+//! so that it takes no pass of its own. Each load reads one value of four rows that lie side by
+//! side. specs/private/Pairs defines the sums.
 
 ghost use Rattle.std.specs.Prelude.{◌≡◌, ℕ, ◌*◌, ◌+◌, ◌/◌, ◌%◌, ◌≤◌, ◌<◌, ◌^◌, length, ◌+ℤ◌, ◌-ℤ◌};
 ghost use Rattle.std.specs.Prelude.{◌*ℤ◌};
@@ -15,14 +16,14 @@ ghost use Rattle.tensor_dots.specs.Products.{dot};
 use std::simd::prelude::*;
 use tensor_dots::lanes::halves::{add_products, rows_from, spread, store};
 
-/// What begins with a panel: its cells, and the sums of the products of its rows' pairs.
+/// A panel: its cells, and for each of its rows the sum of the products of the row's own pairs.
 #[derive(Clone, Copy, Drop)]
 pub(crate) struct Panel<'a> {
     pub(crate) cells: &'a [i64],
     pub(crate) sums: &'a [i64],
 }
 
-/// The sums of four numbers and four others, modulo 2^64.
+/// Returns the sums of two times four numbers, modulo 2^64.
 #[inline(always)]
 fn sums_of(x: i64x4, y: i64x4) -> i64x4
     requires x { AreLanes x }
@@ -33,7 +34,7 @@ fn sums_of(x: i64x4, y: i64x4) -> i64x4
     x + y
 }
 
-/// Four numbers less four others, modulo 2^64.
+/// Returns the differences of two times four numbers, modulo 2^64.
 #[inline(always)]
 fn differences_of(x: i64x4, y: i64x4) -> i64x4
     requires x { AreLanes x }
@@ -44,8 +45,8 @@ fn differences_of(x: i64x4, y: i64x4) -> i64x4
     x - y
 }
 
-/// Four sums before the first product: 0 without the products of the pairs of each of four rows, from
-/// row i on, and of a column.
+/// Returns the value that each of four sums starts from: 0 less the row's own products, from row
+/// `i` on, and less the column's own products.
 #[inline(always)]
 fn without_own(rows: &[i64], i: usize, column: &[i64]) -> i64x4
     requires rows { i + 4 ≤ length rows.now }
@@ -58,7 +59,7 @@ fn without_own(rows: &[i64], i: usize, column: &[i64]) -> i64x4
     differences_of(less, spread(column, 0))
 }
 
-/// The product of a pair more for each of four sums by halves.
+/// Adds the product of a pair to each of four sums that are held by halves.
 #[inline(always)]
 fn add_pair(low: i64x4, crossed: u32x8, x: i64x4, y: i64x4, b: &[i64], i: usize) -> (i64x4, u32x8)
     requires low { AreLanes low }
@@ -76,7 +77,7 @@ fn add_pair(low: i64x4, crossed: u32x8, x: i64x4, y: i64x4, b: &[i64], i: usize)
     add_products(low, crossed, first, second)
 }
 
-/// The sums of the products of n pairs of each of sixteen rows and a column.
+/// Returns for each of sixteen rows the sum of its products with a column, over `n` pairs.
 #[inline(never)]
 pub(crate) fn pairs_of_sixteen(rows: Panel<'_>, column: Panel<'_>, n: usize) -> [i64; 16]
     requires a { n * 32 ≤ length rows.cells.now }
@@ -114,7 +115,8 @@ pub(crate) fn pairs_of_sixteen(rows: Panel<'_>, column: Panel<'_>, n: usize) -> 
     sums
 }
 
-/// The sums of the products of n pairs of each of four rows and a column, and what is there.
+/// Returns for each of four rows the sum of its products with a column, over `n` pairs. The other
+/// twelve numbers mean nothing.
 #[inline(never)]
 pub(crate) fn pairs_of_four(rows: Panel<'_>, column: Panel<'_>, n: usize) -> [i64; 16]
     requires a { n * 8 ≤ length rows.cells.now }

@@ -1,4 +1,5 @@
-//! Writing the sums of a tile to the places of a band.
+//! Where the sums of a tile stand in a band, and how they are written there. The chunks and the
+//! blocks of `strassen` write by this; specs/private/Tiles defines which places are a tile's.
 
 ghost use Rattle.std.specs.Prelude.{◌≡◌, ℕ, ◌*◌, ◌+◌, ◌/◌, ◌%◌, ◌<◌, ◌≤◌, ◌^◌, ◌+ℤ◌, length};
 ghost use Rattle.std.specs.Prelude.{IsFalse, IsTrue};
@@ -9,7 +10,7 @@ ghost use Rattle.tensor_values.specs.Values.{value_in};
 
 use crate::panels::height::Height;
 
-/// A tile of a band of columns, of so many rows each: the rows of one panel in one column.
+/// The rows of one panel in one column of a band, whose columns have `rows` places each.
 #[derive(Clone, Copy, Drop)]
 pub(crate) struct Tile {
     pub(crate) rows: usize,
@@ -23,14 +24,14 @@ pub(crate) struct Tile {
 impl Tile {
     ghost use Rattle.tensor_kernels.specs.private.Tiles.{IsAmong, IsPut, start_of, end_of};
 
-    /// Where its rows begin.
+    /// Returns the place in the band at which the tile begins.
     fn start(self) -> usize
         ensures { result ≡ start_of self }
     {
         self.column * self.rows + self.panel * self.height.rows()
     }
 
-    /// Where they end: after the panel, or with the column.
+    /// Returns the place in the band at which the tile ends: after the panel, or with the column.
     fn end(self) -> usize
         ensures { result ≡ end_of self }
     {
@@ -38,7 +39,7 @@ impl Tile {
         self.start() + height.min(self.rows - self.panel * height)
     }
 
-    /// Whether one of its places is among so many from one on.
+    /// Returns whether the tile has a place in `[from, from + count)`.
     pub(crate) fn meets(self, from: usize, count: usize) -> bool
         requires { from + count < 2 ^ 40 }
         ensures met { IsTrue result → (k : ℕ) × (k < count) × IsAmong self (from + k) }
@@ -47,7 +48,8 @@ impl Tile {
         self.start().max(from) < self.end().min(from + count)
     }
 
-    /// Writes its sums, of chunk c, to those of its places that are among these, from one on.
+    /// Adds the sums of chunk `c` at the tile's places in `out`, whose first place is place `from`
+    /// of the band. Chunk 0 overwrites. Other places stay as they are.
     pub(crate) fn put(self, c: usize, sums: &[i64; 16], from: usize, out: &mut [i64])
         requires { from + length out.old < 2 ^ 40 }
         ensures len { length out.new ≡ length out.old }
@@ -64,7 +66,7 @@ impl Tile {
     }
 }
 
-/// Writes the sums of chunk c: those of chunk 0 are put there, those of later ones added.
+/// Adds the sums of chunk `c`. Chunk 0 overwrites what stands in `out`.
 pub(crate) fn add_run(c: usize, sums: &[i64], out: &mut [i64])
     requires { length out.old ≤ length sums.now }
     ensures len { length out.new ≡ length out.old }
@@ -76,7 +78,7 @@ pub(crate) fn add_run(c: usize, sums: &[i64], out: &mut [i64])
     }
 }
 
-/// The sum of a chunk, added to that of those before it, which stands there where there are any.
+/// Returns a chunk's sum plus the sum of the earlier chunks. Chunk 0 has no earlier ones.
 #[inline(always)]
 fn with_sum(c: usize, there: i64, sum: i64) -> i64
     ensures { result ≡ wrap (before c there +ℤ sum) }

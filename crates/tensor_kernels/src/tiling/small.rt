@@ -1,5 +1,5 @@
-//! Sums of products of a panel's rows and a column, of numbers that fit 32 bits: two products an
-//! instruction, or four on a processor of wider vectors.
+//! Tiles of numbers that fit 32 bits: an instruction makes two products, or four on a processor
+//! with vectors of 256 bits. `tile` chooses by the height.
 
 ghost use Rattle.std.specs.Prelude.{◌≡◌, ℕ, ◌*◌, ◌≤◌, ◌<◌, length};
 ghost use Rattle.tensor_shape.specs.Wrap.{wrap};
@@ -11,8 +11,8 @@ ghost use Rattle.tensor_values.specs.Values.{value_in};
 use std::simd::prelude::*;
 use tensor_dots::lanes::small::{add_product, four_from, store};
 
-/// The values at the even places of eight. A product of numbers of 32 bits reads the low half of
-/// each lane alone, so this takes no instruction.
+/// Returns the values at the even places. A product of 32-bit numbers reads only the low half of
+/// each lane, so this takes no instruction.
 #[inline(always)]
 fn even_values(values: i32x8) -> i64x4
     requires len { length values ≡ 8 }
@@ -24,7 +24,8 @@ fn even_values(values: i32x8) -> i64x4
     (i64x4::from_le_bytes(values.to_le_bytes()) << half) >> half
 }
 
-/// The value at place i in all lanes. By way of 32 bits, as the four others.
+/// Returns the value at place `i` in all four lanes. It goes through 32 bits so that the compiler
+/// uses the instruction that multiplies such numbers.
 #[inline(always)]
 fn spread_small(b: &[i64], i: usize) -> i64x4
     requires small { AreSmall b.now }
@@ -35,7 +36,7 @@ fn spread_small(b: &[i64], i: usize) -> i64x4
     even_values(i32x8::splat(b[i] as i32))
 }
 
-/// The sums of the n products of each of sixteen rows and a column.
+/// Returns for each of sixteen rows the sum of its `n` products with a column.
 #[inline(never)]
 pub(crate) fn small_sixteen(a: &[i64], b: &[i64], n: usize) -> [i64; 16]
     requires small_a { AreSmall a.now }
@@ -64,7 +65,8 @@ pub(crate) fn small_sixteen(a: &[i64], b: &[i64], n: usize) -> [i64; 16]
     sums
 }
 
-/// The sums of the n products of each of four rows and a column, and what is there.
+/// Returns for each of four rows the sum of its `n` products with a column. The other twelve
+/// numbers mean nothing.
 #[inline(never)]
 pub(crate) fn small_four(a: &[i64], b: &[i64], n: usize) -> [i64; 16]
     requires small_a { AreSmall a.now }

@@ -1,6 +1,7 @@
 //! Two chunks of a contraction's products at once: seven products of halves of the rows and of a
-//! band's columns do for eight (Strassen, Gaussian elimination is not optimal, 1969). Numbers that
-//! wrap are a ring, so the sums are the same to the last bit.
+//! band's columns give the sums of eight (Strassen, Gaussian elimination is not optimal, 1969).
+//! Numbers that wrap are a ring, so each sum is the same to the last bit. specs/private/Strassen
+//! defines the products, specs/private/PairedBands the sums.
 //!
 //! ```text
 //! 32 rows of the first operand,
@@ -32,23 +33,25 @@ use crate::tiling::strassen::quarters::Quarters;
 use std::alloc::{AllocError, Global};
 use tensor_dots::RowsPart;
 
-/// From so many rows on seven products of halves take less time than eight do: with fewer, the sums
-/// and differences of a band's columns take as long as the product that they spare.
+/// The fewest rows for which seven products of halves take less time than eight. With fewer rows,
+/// the sums and differences of a band's columns take as long as the product that they save.
 const PAIRED_ROWS: usize = 256;
 
-/// From so many columns on, of which each range has many: each packs all of the first operand for
-/// itself, where else it is packed once.
+/// The fewest columns for which two chunks are taken at once. A range should then have many
+/// columns, since each range packs all of the first operand for itself. tensor_reduce cuts ranges
+/// by it.
 pub const PAIRED_COLUMNS: usize = 1024;
 
-/// How many products two chunks have.
+/// The number of products of two chunks.
 const PAIR: usize = 256;
 
-/// Of how many pairs of chunks the products are added up before their sums are written to the
-/// result, whose columns lie far apart. The factors of a band's columns are held for all of these.
+/// The number of pairs of chunks whose products are added up before the sums are written to the
+/// result, whose columns lie far apart. The factors of a band's columns are held for all of these
+/// pairs.
 const GROUP: usize = 2;
 
-/// How often two chunks of so many products are taken at once, where there are so many rows and
-/// columns.
+/// Returns how often two chunks are taken at once, for a number of rows, columns and products. It
+/// is 0 if there are too few rows or columns.
 pub(crate) fn pairs_of(rows: usize, columns: usize, products: usize) -> usize
     ensures { result * 256 ≤ products }
 {
@@ -59,24 +62,24 @@ pub(crate) fn pairs_of(rows: usize, columns: usize, products: usize) -> usize
     }
 }
 
-/// How many groups so many pairs of chunks are taken in.
+/// Returns the number of groups for the given number of pairs of chunks.
 pub(crate) fn groups_of(pairs: usize) -> usize
     ensures { result ≡ div_ceil pairs 2 }
 {
     pairs.div_ceil(GROUP)
 }
 
-/// The columns of a band, packed in the chunks of a group of pairs.
+/// The columns of a band, packed for a group of pairs of chunks.
 #[derive(Clone, Copy, Drop)]
 pub(crate) struct Band<'a> {
-    /// Which group.
+    /// The group's number.
     group: usize,
-    /// The first place that is written.
+    /// The place of the result that is written first.
     place: usize,
     columns: usize,
-    /// How many columns the first half of the band has.
+    /// The number of columns in the first half of the band.
     half: usize,
-    /// The factors that the columns give in each of the pairs.
+    /// The factors of the columns, for each pair of the group.
     factors: &'a [Factors],
 }
 
@@ -88,8 +91,8 @@ impl Tiled<'_> {
     ghost use Rattle.tensor_kernels.specs.private.Strassen.{AreLong};
     ghost use Rattle.tensor_kernels.specs.Tiling.{tiled_count, group_total};
 
-    /// Writes the sums of a group of pairs of chunks. Takes the room for the factors of a band of
-    /// columns, and beside them for a block of the rows.
+    /// Adds the sums of a group of pairs of chunks. Group 0 overwrites what stands in `out`. Takes
+    /// room for the factors of a band of columns and for a block of the rows.
     pub(crate) fn add_group(
         &self,
         group: usize,
@@ -119,7 +122,8 @@ impl Tiled<'_> {
         self.add_blocks(&band, out)
     }
 
-    /// The factors that so many columns, from one on, give in each of so many pairs of chunks.
+    /// Returns the factors of `columns` columns from `column` on, for each of `count` pairs of
+    /// chunks from `first` on.
     fn factors_of(
         &self,
         first: usize,
@@ -142,7 +146,7 @@ impl Tiled<'_> {
         Ok(factors)
     }
 
-    /// The same of one pair.
+    /// Returns the factors of `columns` columns from `column` on, for one pair of chunks.
     fn factors_at(&self, pair: usize, column: usize, columns: usize) -> Result<Factors, AllocError>
         requires some { 0 < columns }
         requires few { columns ≤ 512 }
@@ -164,7 +168,7 @@ impl Tiled<'_> {
         Ok(factors)
     }
 
-    /// Writes the sums of a band, block by block of the rows.
+    /// Adds the sums of a band, block by block of the rows.
     fn add_blocks(&self, band: &Band<'_>, out: &mut [i64]) -> Result<(), AllocError>
         requires band { IsBand self.now band.now }
         requires inside { band.now.place % self.now.rows + length out.old
@@ -181,8 +185,8 @@ impl Tiled<'_> {
         Ok(())
     }
 
-    /// Writes those of block b of the rows. All else stays. What the products were is of no
-    /// account.
+    /// Adds the sums of block `b` of the rows. Other places stay as they are. What `products` holds
+    /// before doesn't matter.
     fn add_block(
         &self,
         b: usize,
@@ -213,7 +217,7 @@ impl Tiled<'_> {
         Ok(())
     }
 
-    /// Adds up the products of block b of the rows over the band's pairs.
+    /// Adds up the products of block `b` of the rows over the pairs of the band's group.
     fn gather(&self, b: usize, band: &Band<'_>, products: &mut Products) -> Result<(), AllocError>
         requires band { IsBand self.now band.now }
         requires block { b * 32 < self.now.rows }
@@ -228,7 +232,8 @@ impl Tiled<'_> {
         Ok(())
     }
 
-    /// Adds those of one pair more.
+    /// Adds the products of pair `i` of the group to the sums of the earlier pairs. Pair 0
+    /// overwrites the sums.
     fn add_products(
         &self,
         i: usize,

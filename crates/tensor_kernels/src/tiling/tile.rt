@@ -1,4 +1,5 @@
-//! Sums of products of a panel's rows and one column.
+//! Tiles: for each row of a panel, the sum of its products with one column. `packed_chunk` calls
+//! this; here the function for the panel's height is chosen.
 
 ghost use Rattle.std.specs.Prelude.{◌≡◌, ℕ, ◌*◌, ◌+◌, ◌/◌, ◌≤◌, ◌<◌, length};
 ghost use Rattle.tensor_shape.specs.Wrap.{wrap};
@@ -13,7 +14,8 @@ use crate::tiling::pairs::{Panel, pairs_of_four, pairs_of_sixteen};
 use crate::tiling::small::{small_four, small_sixteen};
 use tensor_dots::lanes::mul_add;
 
-/// The sums of the n products of each row of a panel and a column, of numbers of 32 bits.
+/// Returns for each row of a panel the sum of its `n` products with a column, all of numbers that
+/// fit 32 bits. Numbers past the height mean nothing.
 pub(crate) fn small_tile(height: Height, a: &[i64], b: &[i64], n: usize) -> [i64; 16]
     requires small_a { AreSmall a.now }
     requires small_b { AreSmall b.now }
@@ -29,8 +31,8 @@ pub(crate) fn small_tile(height: Height, a: &[i64], b: &[i64], n: usize) -> [i64
     }
 }
 
-/// The sums of the n products of each row of a panel and a column, where the sums of the products
-/// of their pairs are known.
+/// Returns for each row of a panel the sum of its `n` products with a column, given the sums of the
+/// products of their pairs. Numbers past the height mean nothing.
 pub(crate) fn wide_tile(height: Height, rows: Panel<'_>, column: Panel<'_>, n: usize) -> [i64; 16]
     requires a { n * height_of height ≤ length rows.cells.now }
     requires b { n ≤ length column.cells.now }
@@ -54,7 +56,7 @@ pub(crate) fn wide_tile(height: Height, rows: Panel<'_>, column: Panel<'_>, n: u
     }
 }
 
-/// The sums of n products, and product n more in each.
+/// Adds product `n` to each sum of `n` products.
 fn with_last(height: Height, sums: [i64; 16], a: &[i64], b: &[i64], n: usize) -> [i64; 16]
     requires a { n * height_of height + height_of height ≤ length a.now }
     requires b { n < length b.now }

@@ -1,4 +1,5 @@
-//! Values that are read along a view, written row by row where they are wanted.
+//! Values read along a view and written into the caller's buffer, row by row. It reads what
+//! `picked_along` reads and allocates only the starts of rows.
 
 ghost use Rattle.std.specs.Prelude.{◌≡◌, ◌<◌, ◌≤◌, ◌-◌, ◌+◌, ◌*◌, ◌/◌, ◌^◌, ℕ, length, OnOk};
 ghost use Rattle.tensor_loops.specs.Putting.{PutsRow};
@@ -9,14 +10,17 @@ ghost use Rattle.tensor_views.specs.View.{view_size, reached, along, IsRowIn};
 use std::alloc::{AllocError, Global};
 use tensor_views::{Axis, Reading, Row, rows_of, steps_to};
 
-/// The rows of a run of a view's places: where each starts, and the axis along which all go.
+/// The rows that hold a run of a view's places.
 #[derive(Clone, Copy, Drop)]
 struct Rows<'a> {
+    /// The place at which each row starts in the list.
     starts: &'a [u32],
+    /// The axis along which all rows go.
     axis: Axis,
 }
 
-/// Writes what is read at places from one on, as many as there is room for, whatever stands there.
+/// Writes the values that a reading has at the places `[first, first + values.len())`, and
+/// overwrites what is in `values`. Fails if the list of row starts can't be allocated.
 pub fn put_along(
     alloc: Global,
     values: &mut [i64],
@@ -44,7 +48,7 @@ pub fn put_along(
     Ok(())
 }
 
-/// The same, for each row's start a row along the axis, the first row and the last cut to the run.
+/// Writes the values of a run row by row. The first and the last row are cut to the run.
 fn put_rows(values: &mut [i64], list: &[i64], rows: Rows<'_>, first: usize)
     requires size { 0 < rows.axis.size }
     requires rows { first + length values.old
@@ -72,8 +76,8 @@ fn put_rows(values: &mut [i64], list: &[i64], rows: Rows<'_>, first: usize)
     }
 }
 
-/// Writes a list's values along a row from a place on. The step is a constant where the values lie
-/// side by side or are one.
+/// Writes the values of one row into `values` from index `at` on. The step is a constant if it is 1
+/// or 0, so that the compiler makes a loop for it.
 fn put_row(values: &mut [i64], at: usize, list: &[i64], row: Row)
     requires row { IsRowIn row (length list.now) }
     requires room { at + row.count ≤ length values.old }
@@ -87,6 +91,7 @@ fn put_row(values: &mut [i64], at: usize, list: &[i64], row: Row)
     }
 }
 
+/// Writes the values of one row into `values` from index `at` on, one by one.
 #[inline(always)]
 fn put_places(values: &mut [i64], at: usize, list: &[i64], row: Row)
     requires row { IsRowIn row (length list.now) }

@@ -1,4 +1,5 @@
-//! The values of two operands in turns, from those of each.
+//! The values of two operands in turns, from the values of each. tensor_values has the
+//! turns, and `specs/Interleaving` there has the meaning.
 
 ghost use Rattle.std.specs.Prelude.{◌≡◌, ◌<◌, ◌≤◌, ◌-◌, ◌+◌, ◌%◌, length, IfOk, if◌then◌else◌};
 ghost use Rattle.std.specs.List.{range_with_len};
@@ -8,7 +9,8 @@ ghost use Rattle.tensor_values.specs.Interleaving.{first_places, second_places, 
 use std::alloc::{AllocError, Global};
 use tensor_values::Turns;
 
-/// The values at a run of places, from those of each operand at its run.
+/// Returns the values at the places in `[from, to)`. `firsts` and `seconds` are the values of each
+/// operand at its places in this run.
 pub fn interleaved_run(
     alloc: Global,
     turns: Turns,
@@ -39,7 +41,8 @@ pub fn interleaved_run(
     Ok(values)
 }
 
-/// The values from a place to an end, all of one operand and one turn.
+/// Returns the values at the places in `[place, end)`, which belong to one operand and one turn.
+/// `firsts` and `seconds` begin with the operands' first places from `from` on.
 fn part<'v>(
     turns: Turns,
     from: usize,
@@ -71,7 +74,8 @@ fn part<'v>(
     }
 }
 
-/// The places of each operand among places.
+/// Returns the places of the first operand and the places of the second operand that a list of
+/// places reads, both in order.
 pub fn places_of_each(
     alloc: Global,
     turns: Turns,
@@ -95,7 +99,8 @@ pub fn places_of_each(
     Ok((firsts, seconds))
 }
 
-/// The values at listed places, from those of each operand at its places among them.
+/// Returns the values at listed places. `firsts` and `seconds` are the values of each operand at
+/// its places in the list, in order.
 pub fn interleaved_list(
     alloc: Global,
     turns: Turns,

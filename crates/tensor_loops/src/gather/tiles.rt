@@ -1,5 +1,6 @@
-//! Gathers by tiles: where neighbours of a list are wanted at places far apart, those of one line of
-//! the cache are read together, before the line is lost, and each is written to a row of its own.
+//! Gathers by tiles, for views that read neighbours of a list at places far apart. The values of
+//! one cache line are read together and each is written to its own row. No value depends on tiles;
+//! the sizes here were chosen for speed, and a change of `TILE` touches `specs/Tiles`.
 
 ghost use Rattle.std.specs.Prelude.{◌≡◌, ◌≢◌, ◌<◌, ◌≤◌, ◌-◌, ◌+◌, ◌*◌, ◌/◌, ◌%◌, ◌^◌, ℕ};
 ghost use Rattle.std.specs.Prelude.{IfOk, IfSome, IsTrue, OnOk, length, slice_index};
@@ -12,33 +13,37 @@ use crate::gather::picked_along;
 use std::alloc::{AllocError, Global};
 use tensor_views::{Axis, Places, Reading};
 
-/// How many neighbours are read together: as many as a line of the cache has.
+/// How many neighbours are read together: the 64-bit values of a cache line.
 const TILE: usize = 8;
 
-/// The shortest stride that tiles are for. The lines of fewer places are still in the nearer caches
-/// when the next of their values are wanted, and rows are then gathered faster one by one.
+/// The shortest stride for which tiles are used. With a shorter stride a cache line is still in a
+/// near cache when its next value is read, and gathering row by row is faster.
 const SHORTEST_STRIDE: usize = 1024;
 
-/// How many places are worked out at a time, so that they stay in the nearest cache.
+/// How many places are computed at a time, so that they stay in the nearest cache.
 const PIECE: usize = 1024;
 
-/// Where neighbours of a list lie among the places of a view: each so many places behind the one
-/// before it, and so many of them in a row.
+/// How a view reads neighbours of a list: places that lie `stride` apart read neighbouring values,
+/// in runs of `count`.
 #[derive(Clone, Copy, Drop)]
 pub struct Neighbours {
+    /// The distance of places that read neighbouring values.
     pub stride: usize,
+    /// The number of neighbours in a run.
     pub count: usize,
 }
 
-/// A list that is read along a view which takes neighbours of it far apart.
+/// A list that is read along a view, where neighbours in the list are read at places far apart.
 #[derive(Clone, Copy, Drop)]
 pub struct Tiled<'a> {
+    /// The list and the view.
     pub reading: Reading<'a>,
+    /// Where the neighbours lie among the places of the view.
     pub neighbours: Neighbours,
 }
 
 impl Neighbours {
-    /// Those of a view that are far enough apart to be read by tiles.
+    /// Returns the neighbours of a view; `None` if they aren't far enough apart for tiles.
     fn far_apart(axes: &[Axis]) -> Option<Self>
         ensures { IfSome result (λ n. HaveNeighbours axes.now n.stride n.count) }
     {
@@ -49,7 +54,8 @@ impl Neighbours {
         Some(neighbours)
     }
 
-    /// Whether a row begins at a place, and those behind it have the neighbours of its values.
+    /// Whether a row begins at `place` and at least seven more rows follow in its run of
+    /// neighbours.
     #[inline(always)]
     fn has_tile(self, place: usize) -> bool
         requires stride { 0 < self.stride }
@@ -59,7 +65,7 @@ impl Neighbours {
         place % self.stride == 0 && self.count - place / self.stride % self.count >= TILE
     }
 
-    /// Writes neighbours, each at the index in a row of its own.
+    /// Writes neighbours into the rows of `out`, one into each row, at the same index of each.
     #[inline(always)]
     fn put(self, out: &mut [i64], index: usize, neighbours: &[i64])
         requires row { index < self.stride }
@@ -78,7 +84,7 @@ impl Neighbours {
 }
 
 impl<'a> Tiled<'a> {
-    /// A list and a view, where the view takes neighbours far apart.
+    /// Returns the reading with its neighbours; `None` if tiles are not worth it for this view.
     pub fn of(reading: Reading<'a>) -> Option<Self>
         ensures reading { IfSome result (λ tiled. tiled.reading ≡ reading.entry) }
         ensures neighbours { IfSome result (λ tiled. HaveNeighbours tiled.reading.view.axes.now
@@ -91,8 +97,8 @@ impl<'a> Tiled<'a> {
         })
     }
 
-    /// Writes what is read at the places from the first on, tile by tile where it can, whatever
-    /// stands there.
+    /// Writes the values at the places `[first, first + out.len())`, by tiles where possible, and
+    /// overwrites what is in `out`.
     pub fn gather(self, alloc: Global, first: usize, out: &mut [i64]) -> Result<(), AllocError>
         requires neighbours { HaveNeighbours self.reading.view.axes.now self.neighbours.stride
             self.neighbours.count }
@@ -113,8 +119,8 @@ impl<'a> Tiled<'a> {
         Ok(())
     }
 
-    /// Writes what is read at the next places: those of a slab of rows where one begins there, and
-    /// else at most those up to where the next one may. Tells how many they are.
+    /// Writes the next values, and returns how many: the values of a slab of rows if one begins at
+    /// `place`, else values up to the next place at which a slab may begin.
     fn gather_next(self, alloc: Global, place: usize, out: &mut [i64]) -> Result<usize, AllocError>
         requires neighbours { HaveNeighbours self.reading.view.axes.now self.neighbours.stride
             self.neighbours.count }
@@ -142,7 +148,7 @@ impl<'a> Tiled<'a> {
         Ok(count)
     }
 
-    /// Writes a slab of rows, of which each has the neighbours of the values in the one before.
+    /// Writes a slab of rows. Each row has the next neighbours of the values in the row before it.
     fn gather_slab(self, alloc: Global, place: usize, out: &mut [i64]) -> Result<(), AllocError>
         requires neighbours { HaveNeighbours self.reading.view.axes.now self.neighbours.stride
             self.neighbours.count }
@@ -169,8 +175,8 @@ impl<'a> Tiled<'a> {
         Ok(())
     }
 
-    /// Writes into each row, from an index on, a neighbour of the value at each source: into the
-    /// first row the value itself, into the next one its first neighbour, and so on.
+    /// Writes a tile, from index `from` of each row on: into the first row the value at each
+    /// source, into the next row the neighbour after it, and so on.
     fn put_tile(self, out: &mut [i64], from: usize, sources: &[u32])
         requires row { from + length sources.now ≤ self.neighbours.stride }
         requires room { 8 * self.neighbours.stride ≤ length out.old }
@@ -192,8 +198,8 @@ impl<'a> Tiled<'a> {
     }
 }
 
-/// Those along the first axis whose places lie side by side, if there are enough of them. Axes that
-/// repeat places are not passed: where those are read again their line is still near.
+/// Returns the neighbours along the first axis of step 1, if it has enough places for a tile. Axes
+/// before it that repeat places give `None`: their cache lines are read again soon.
 fn neighbours_of(axes: &[Axis]) -> Option<Neighbours>
     ensures { IfSome result (λ n. HaveNeighbours axes.now n.stride n.count) }
 {

@@ -1,5 +1,6 @@
-//! Chains: operations one after the other, each on the value so far and the value of one and the
-//! same operand, which is read once for all of them.
+//! Chains: operations one after the other, each on the value so far and the value of one operand
+//! that all of them share. The operand is gathered once for the whole chain. The lowering of
+//! tensor_ops finds the chains; the meaning is in `specs/Chain`.
 
 ghost use Rattle.std.specs.Prelude.{◌≡◌, ◌<◌, ℕ, pos, length, slice_index_or, IsTrue};
 ghost use Rattle.tensor_loops.specs.Chain.{chained, AreSame};
@@ -8,18 +9,20 @@ use crate::loops::combine;
 use tensor_values::BinaryScalar;
 use tensor_views::{Axis, Reading};
 
-/// How many values a list has at most that is compared with another one: what repeats a longer
-/// list saves less, and to compare it takes longer.
+/// The longest lists that are compared with each other. A longer list takes longer to compare, and
+/// sharing it saves less.
 const MOST_COMPARED: usize = 4096;
 
-/// An operation of a chain. The operand's value comes first where it is swapped.
+/// An operation of a chain, and the order of its operands.
 #[derive(Clone, Copy, Drop)]
 pub struct Link {
+    /// The operation.
     pub operation: BinaryScalar,
+    /// Whether the shared operand's value is the first operand.
     pub swapped: bool,
 }
 
-/// The values become those of the operations, one after the other, with the operand's values.
+/// Replaces each value by the result of all operations of a chain, one after the other.
 pub fn combine_chain(links: &[Link], values: &mut [i64], operand: &[i64])
     requires { length values.old ≡ length operand.now }
     ensures len { length values.new ≡ length operand.now }
@@ -32,8 +35,8 @@ pub fn combine_chain(links: &[Link], values: &mut [i64], operand: &[i64])
     }
 }
 
-/// Whether two readings are seen to be of the same values: along one view, of lists that are short
-/// and the same.
+/// Whether two readings are known to read equal values: equal views, of short and equal lists.
+/// False says nothing.
 pub fn are_same(first: &Reading<'_>, second: &Reading<'_>) -> bool
     ensures { IsTrue result → AreSame first.now second.now }
 {
@@ -46,7 +49,7 @@ pub fn are_same(first: &Reading<'_>, second: &Reading<'_>) -> bool
     first.list.len() <= MOST_COMPARED && first.list == second.list
 }
 
-/// Whether the axes are the same.
+/// Whether two lists of axes are equal.
 fn are_same_axes(first: &[Axis], second: &[Axis]) -> bool
     ensures { IsTrue result → first.now ≡ second.now }
 {
@@ -61,7 +64,7 @@ fn are_same_axes(first: &[Axis], second: &[Axis]) -> bool
     true
 }
 
-/// Whether an axis is another one.
+/// Whether two axes are equal.
 fn is_same_axis(axis: Axis, other: Axis) -> bool
     ensures { IsTrue result → axis ≡ other }
 {

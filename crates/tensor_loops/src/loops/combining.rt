@@ -1,5 +1,5 @@
-//! Values and a list that is read along a view become an operation's, row by row: what is read is
-//! never put into a list of its own.
+//! Values combined with a list that is read along a view, row by row. The values read are never
+//! stored in a list of their own. tensor_ops chooses this way by `has_long_rows`.
 
 ghost use Rattle.std.specs.Prelude.{◌≡◌, ◌<◌, ◌≤◌, ◌-◌, ◌+◌, ◌*◌, ◌/◌, ◌^◌, ℕ, pos, length};
 ghost use Rattle.std.specs.Prelude.{OnOk, slice_index_or};
@@ -13,11 +13,11 @@ use crate::loops::combine_row;
 use std::alloc::{AllocError, Global};
 use tensor_views::{Axis, Reading, Row, rows_of};
 
-/// How many places rows have at least where they are read one by one.
+/// The shortest row that is read value by value here.
 const SHORTEST_READ_ROW: usize = 16;
 
-/// Whether the rows along the first axis of another size than 1 have 16 places or more. No value
-/// depends on it: it tells where [`combine_along`] is the shorter way.
+/// Whether the rows along the first axis of a size other than 1 have at least 16 places. Then
+/// [`combine_along`] is the faster way; no value depends on it.
 pub fn has_long_rows(axes: &[Axis]) -> bool
     ensures { result ≡ has_long_rows axes.now }
 {
@@ -28,8 +28,8 @@ pub fn has_long_rows(axes: &[Axis]) -> bool
     }
 }
 
-/// The values become the operation's of them and the list's for a run of the view's places, of
-/// which the second comes first where they are swapped.
+/// Replaces each value by the result of the operation on it and the value that the reading has at
+/// its place of `[first, last)`. If the link is swapped, the value read is the first operand.
 pub fn combine_along(
     alloc: Global,
     link: Link,
@@ -58,8 +58,7 @@ pub fn combine_along(
     Ok(())
 }
 
-/// The same, for each row's start those of a row along the axis, the first row and the last cut to
-/// the run.
+/// Combines values with a list's values row by row. The first and the last row are cut to the run.
 fn combine_rows(
     link: Link,
     values: &mut [i64],

@@ -1,5 +1,5 @@
-//! Values of operations on lists, put over whatever is there: in one pass, with no operand copied
-//! before.
+//! Results of operations on lists, written over a buffer in one pass, without a copy of an operand.
+//! A new operation needs an arm in each `match`; the meaning is in `specs/Putting`.
 
 ghost use Rattle.std.specs.Prelude.{◌≡◌, ◌<◌, ℕ, pos, length, slice_index_or, IfOk};
 ghost use Rattle.tensor_loops.specs.Loops.{either_way};
@@ -7,20 +7,22 @@ ghost use Rattle.tensor_loops.specs.Putting.{other_at, IsAsLong};
 ghost use Rattle.tensor_values.specs.Scalars.{applied};
 
 use crate::loops::chain::Link;
+use crate::loops::dividing::{Division, divides_by};
 use crate::loops::either_way;
+use crate::loops::inverse::Inverse;
 use std::alloc::{AllocError, Global};
 use tensor_values::{BinaryScalar, UnaryScalar, applied};
 
-/// What stands second in a loop over two operands.
+/// The second operand of a loop over two operands.
 #[derive(Clone, Copy, Drop)]
 pub enum Others<'a> {
-    /// A list's values, each at its place.
+    /// The values of a list, each at its index.
     Listed(&'a [i64]),
-    /// One value at every place.
+    /// One value at every index.
     Filled(i64),
 }
 
-/// Each value becomes the operation's of a list's at its place.
+/// Replaces each value by the result of the operation on the list's value at its index.
 pub fn put_applied(operation: UnaryScalar, values: &mut [i64], list: &[i64])
     requires { length values.old ≡ length list.now }
     ensures len { length values.new ≡ length list.now }
@@ -36,8 +38,8 @@ pub fn put_applied(operation: UnaryScalar, values: &mut [i64], list: &[i64])
     }
 }
 
-/// Each value becomes the operation's of a list's at its place and the other one there, which comes
-/// first where they are swapped.
+/// Replaces each value by the result of the operation on the first list's value and the second
+/// operand at its index. If the link is swapped, the second operand comes first.
 pub fn put_combined(link: Link, values: &mut [i64], first: &[i64], others: Others<'_>)
     requires first { length values.old ≡ length first.now }
     requires others { IsAsLong others (length first.now) }
@@ -95,7 +97,8 @@ pub fn put_combined(link: Link, values: &mut [i64], first: &[i64], others: Other
     }
 }
 
-/// The same in a list of their own.
+/// Returns a new list of the results of the operation on the first list's values and the second
+/// operand. If the link is swapped, the second operand comes first.
 pub fn combined_list(
     alloc: Global,
     link: Link,
@@ -114,6 +117,7 @@ pub fn combined_list(
     Ok(values)
 }
 
+/// Writes the results of the operation, which is a constant at compile time.
 #[inline(always)]
 fn put_each_applied(operation: UnaryScalar, values: &mut [i64], list: &[i64])
     requires { length values.old ≡ length list.now }
@@ -126,7 +130,7 @@ fn put_each_applied(operation: UnaryScalar, values: &mut [i64], list: &[i64])
     }
 }
 
-/// Each form of the second operand has a loop of its own.
+/// Writes the results of the operation. Each form of the second operand has a loop of its own.
 #[inline(always)]
 fn put_each(
     operation: BinaryScalar,
@@ -145,10 +149,16 @@ fn put_each(
     let link = Link { operation, swapped };
     match others {
         Others::Listed(second) => put_of_lists(link, values, first, second),
+        Others::Filled(value) if divides_by(link, value) => {
+            let inverse = Inverse::of(value);
+            values.copy_from_slice(first);
+            Division { operation, inverse }.divide_each(values, 0, first.len());
+        }
         Others::Filled(value) => put_with(link, values, first, value),
     }
 }
 
+/// Writes the results of the operation on two lists.
 #[inline(always)]
 fn put_of_lists(link: Link, values: &mut [i64], first: &[i64], second: &[i64])
     requires first { length values.old ≡ length first.now }
@@ -163,6 +173,7 @@ fn put_of_lists(link: Link, values: &mut [i64], first: &[i64], second: &[i64])
     }
 }
 
+/// Writes the results of the operation on a list and one value.
 #[inline(always)]
 fn put_with(link: Link, values: &mut [i64], first: &[i64], other: i64)
     requires { length values.old ≡ length first.now }

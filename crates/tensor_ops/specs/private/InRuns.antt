@@ -20,19 +20,19 @@ use Rattle.tensor_ops.specs.declared.part_evaluator.in_runs.InRuns.TheVariants.{
 use Rattle.tensor_ops.specs.declared.part_evaluator.in_runs.InRuns.TheVariants.{Contracted}
 use Rattle.tensor_ops.specs.declared.part_evaluator.in_runs.InRuns.TheVariants.{Multiplied}
 
--- how many values a run has
+-- the number of values of a run
 abbrev pub run_length : InRuns → ℕ
 run_length (Combined r runs) = runs.length
 run_length (Contracted r runs) = runs.length
 run_length (Multiplied first second) = first.length
 
--- how many places the result has
+-- the number of places of the result
 abbrev pub run_places : InRuns → ℕ
 run_places (Combined r runs) = runs.count
 run_places (Contracted r runs) = runs.count
 run_places (Multiplied first second) = second.count * first.count
 
--- what so many values of the runs of a place give, from one of them on
+-- what count values of the runs of place p contribute, from value first on
 abbrev pub run_part : InRuns → ℕ → ℕ → ℕ → ℤ
 run_part (Combined r runs) p first count =
     folded r (unit r) (λ q. run_value runs p (first + q)) count
@@ -42,7 +42,7 @@ run_part (Multiplied a b) p first count =
     wrap (sum_to (λ q. run_value a (p % a.count) (first + q)
     *ℤ run_value b (p / a.count) (first + q)) count)
 
--- what the whole runs of a place give
+-- the value of place p, with its whole runs
 abbrev pub run_whole : InRuns → ℕ → ℤ
 run_whole r p = run_part r p 0 (run_length r)
 
@@ -52,13 +52,13 @@ HaveOneLength (Combined r runs) = Unit {0}
 HaveOneLength (Contracted r runs) = Unit {0}
 HaveOneLength (Multiplied first second) = second.length ≡ first.length
 
--- which is known in one way only
+-- HaveOneLength is a proposition
 pub HaveOneLength-prop : (r : InRuns) → IsProp (HaveOneLength r)
 HaveOneLength-prop (Combined r runs) = Unit-prop
 HaveOneLength-prop (Contracted r runs) = Unit-prop
 HaveOneLength-prop (Multiplied first second) = ℕ_set second.length first.length
 
--- their parts are those of a term's values
+-- the parts of r are the parts of a term's values
 pub record GivesParts (r : InRuns) (t : Term) (inputs : List Contents) : Type 0 where
   pub lengths : HaveOneLength r
   pub inner : run_length r ≡ inner_size t inputs
@@ -67,7 +67,7 @@ pub record GivesParts (r : InRuns) (t : Term) (inputs : List Contents) : Type 0 
       → first + count ≤ inner_size t inputs
       → run_part r p first count ≡ part_value t inputs p first count
 
--- their parts are those of a reduction of a function's values
+-- the parts of runs are the parts of a reduction of a function's values
 pub record GivesReduced (runs : InRuns) (r : Reducer) (axes ds : List ℕ)
     (f : List ℕ → ℤ) : Type 0 where
   pub lengths : HaveOneLength runs

@@ -1,4 +1,4 @@
--- What a lowered expression means: a value a place.
+-- What a lowered expression means: a value for each place.
 use Rattle.std.specs.Prelude.{◌≡◌, ℕ, ℤ, ◌+◌, ◌<◌, ◌≤◌, List, length}
 use Rattle.std.specs.Coded.{×_prop, Π_prop, Unit-prop, le_prop}
 use native.Mathlib.Nat.{ℕ_set}
@@ -18,7 +18,7 @@ use Rattle.tensor_ops.specs.declared.lowered.Lowered.TheVariants.{Borrowed, Stor
 use Rattle.tensor_ops.specs.declared.lowered.Lowered.TheVariants.{Unary', Binary', Select', View'}
 use Rattle.tensor_ops.specs.declared.lowered.Lowered.TheVariants.{Interleaved', Chain'}
 
--- the value at a place
+-- the value at place p
 abbrev pub meaning : Lowered → ℕ → ℤ
 meaning (Borrowed values) p = value_in values.now p
 meaning (Stored values) p = value_in values.items p
@@ -30,7 +30,7 @@ meaning (Select' order k a l b m c) p = selected order (meaning a p) (meaning b 
 meaning (View' view k a) p = meaning a (reached view.start view.axes.items p)
 meaning (Interleaved' turns k a l b) p = interleaved turns.first turns.second (meaning a) (meaning b) p
 
--- how many places it has
+-- the number of places
 abbrev pub count_of : Lowered → ℕ
 count_of (Borrowed values) = length values.now
 count_of (Stored values) = length values.items
@@ -42,7 +42,7 @@ count_of (Select' order k a l b m c) = count_of a
 count_of (View' view k a) = view_size view.axes.items
 count_of (Interleaved' turns k a l b) = count_of a + count_of b
 
--- how deep it is
+-- the depth of the tree
 abbrev pub depth_of : Lowered → ℕ
 depth_of (Borrowed values) = 0
 depth_of (Stored values) = 0
@@ -70,7 +70,7 @@ IsSound (View' view k a) =
 IsSound (Interleaved' turns k a l b) =
     IsSound a × (IsSound b × HaveTurns turns.first turns.second (count_of a) (count_of b))
 
--- which is known in one way only
+-- IsSound is a proposition
 pub IsSound-prop : (lowered : Lowered) → IsProp (IsSound lowered)
 IsSound-prop (Borrowed values) = Unit-prop
 IsSound-prop (Stored values) = Unit-prop
@@ -89,17 +89,17 @@ IsSound-prop (Interleaved' turns k a l b) =
     ×_prop (IsSound-prop a)
     (×_prop (IsSound-prop b) (×_prop (×_prop le_prop le_prop) (×_prop (ℕ_set _ _) (ℕ_set _ _))))
 
--- its values are this list
+-- the values of a lowered expression are this list
 pub record IsListOf (lowered : Lowered) (values : List ℤ) : Type 0 where
   pub count : count_of lowered ≡ length values
   pub each : (p : ℕ) → meaning lowered p ≡ value_in values p
 
--- what stands second in a loop is these values
+-- the second operand of a loop has these values
 pub record AreOthers (others : Others) (values : List ℤ) : Type 0 where
   pub long : IsAsLong others (length values)
   pub each : (k : ℕ) → k < length values → other_at others k ≡ value_in values k
 
--- its values are those that are read along a view, which stays in the list
+-- the values of a lowered expression are read along a view, all of whose places are in the list
 pub record IsReadingOf (lowered : Lowered) (reading : Reading) : Type 0 where
   pub count : count_of lowered ≡ view_size reading.view.axes.now
   pub each : (p : ℕ) → meaning lowered p ≡ read_at reading p

@@ -7,21 +7,21 @@ use Rattle.tensor_ops.specs.declared.operands.operand.Operand.{Operand}
 use Rattle.tensor_ops.specs.declared.operands.operand.Operand.TheVariants.{InOrder, Along}
 use Rattle.tensor_ops.specs.declared.operands.operand.Viewed.{Viewed}
 
--- how many places a list has along its view
+-- the number of places of a view of a list
 abbrev pub viewed_count : Viewed → ℕ
 viewed_count v = view_size v.view.axes.items
 
--- the value at a place of it
+-- the value at place p of a view of a list
 abbrev pub viewed_value : Viewed → ℕ → ℤ
 viewed_value v p =
     value_in (cow_slice_items v.list) (reached v.view.start v.view.axes.items p)
 
--- how many places an operand has
+-- the number of places of an operand
 abbrev pub operand_count : Operand → ℕ
 operand_count (InOrder values) = length (cow_slice_items values)
 operand_count (Along viewed) = viewed_count viewed
 
--- the value at a place of it
+-- the value at place p of an operand
 abbrev pub operand_at : Operand → ℕ → ℤ
 operand_at (InOrder values) p = value_in (cow_slice_items values) p
 operand_at (Along viewed) p = viewed_value viewed p

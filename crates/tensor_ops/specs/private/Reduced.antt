@@ -1,4 +1,4 @@
--- What a reduction gives that was made ready.
+-- The values of a reduction that was made ready.
 use Rattle.std.specs.Prelude.{ℕ, ℤ, ◌+◌, ◌*◌, length}
 use Rattle.std.specs.Cow.{cow_slice_items}
 use Rattle.tensor_loops.specs.Folds.{folded, offset_at, start_at}
@@ -7,11 +7,11 @@ use Rattle.tensor_values.specs.Combining.{unit}
 use Rattle.tensor_values.specs.declared.reducer.Reducer.{Reducer}
 use Rattle.tensor_ops.specs.declared.operands.reduction.Reduction.{Reduction}
 
--- how many places its result has
+-- the number of places of the result
 abbrev pub places_of_result : Reduction → ℕ
 places_of_result s = length s.rows.items * s.width
 
--- a value, and those of its operand that belong to a place of the result combined with it
+-- a value x, combined with the operand's values for place p of the result
 abbrev pub combined_at : Reduction → Reducer → ℤ → ℕ → ℤ
 combined_at s r x p =
     folded r x
@@ -19,6 +19,6 @@ combined_at s r x p =
     (start_at s.rows.items s.width p + offset_at s.offsets.items s.width s.run q))
     (length s.offsets.items * s.run)
 
--- the value at a place of the result
+-- the value at place p of the result
 abbrev pub reduction_at : Reduction → ℕ → ℤ
 reduction_at s p = combined_at s s.reducer (unit s.reducer) p

@@ -1,4 +1,4 @@
--- What the values of an expression are asked of.
+-- The values of an expression that was made ready.
 use Rattle.std.specs.Prelude.{ℕ, ℤ}
 use Rattle.std.specs.Coded.{Unit-prop}
 use Rattle.tensor_kernels.specs.Contracting.{contraction_count, contraction_value}
@@ -8,28 +8,28 @@ use Rattle.tensor_ops.specs.private.Reduced.{places_of_result, reduction_at}
 use Rattle.tensor_ops.specs.declared.evaluator.root.Root.{Root}
 use Rattle.tensor_ops.specs.declared.evaluator.root.Root.TheVariants.{Lowered, Reduction, Contraction, Along}
 
--- how many values it has
+-- the number of values
 abbrev pub root_count : Root → ℕ
 root_count (Lowered lowered) = count_of lowered
 root_count (Reduction r) = places_of_result r
 root_count (Contraction c) = contraction_count c
 root_count (Along a) = places_along a
 
--- the value at a place
+-- the value at place p
 abbrev pub root_value : Root → ℕ → ℤ
 root_value (Lowered lowered) p = meaning lowered p
 root_value (Reduction r) p = reduction_at r p
 root_value (Contraction c) p = contraction_value c p
 root_value (Along a) p = value_along a p
 
--- what is asked of a lowered expression is there
+-- what is read of a lowered expression is there
 abbrev pub IsSoundRoot : Root → Type 0
 IsSoundRoot (Lowered lowered) = IsSound lowered
 IsSoundRoot (Reduction r) = Unit {0}
 IsSoundRoot (Contraction c) = Unit {0}
 IsSoundRoot (Along a) = Unit {0}
 
--- which is known in one way only
+-- IsSoundRoot is a proposition
 pub IsSoundRoot-prop : (root : Root) → IsProp (IsSoundRoot root)
 IsSoundRoot-prop (Lowered lowered) = IsSound-prop lowered
 IsSoundRoot-prop (Reduction r) = Unit-prop

@@ -7,8 +7,8 @@ use Rattle.tensor_terms.specs.Merged.{dims_at, other_dims, merged}
 abbrev pub value_in_run : (ℕ → ℤ) → ℕ → ℕ → ℕ → ℤ
 value_in_run at n x q = at (q + n * x)
 
--- so many runs of n values are those of a function at index lists of these dims: a run for each
--- index list of the other axes, in it a value for each of these axes
+-- count runs of n values are the values of a function at index lists of dims ds: a run for each
+-- index list of the other axes, in it a value for each index list of the given axes
 pub record LieInRuns (at : ℕ → ℤ) (n count : ℕ) (ds axes : List ℕ)
     (f : List ℕ → ℤ) : Type 0 where
   pub long : n ≡ size_of (dims_at axes ds)

@@ -5,7 +5,7 @@ use Rattle.tensor_views.specs.View.{reached}
 use Rattle.tensor_ops.specs.declared.lowered.Lowered.{Lowered}
 use Rattle.tensor_views.specs.declared.axis.Axis.{Axis}
 
--- it has so many places, and at them the values of a function
+-- a lowered expression has the given number of places, and the values of a function at them
 pub record Follows (lowered : Lowered) (places : ℕ) (at : ℕ → ℤ) : Type 0 where
   pub sound : IsSound lowered
   pub count : count_of lowered ≡ places

@@ -5,8 +5,8 @@ use Rattle.tensor_shape.specs.Index.{size_of, place, index_of}
 use Rattle.tensor_terms.specs.Convolution.{window_index}
 use Rattle.tensor_values.specs.Values.{value_in}
 
--- so many rows of so many values are those of an operand: a row for each index list of the result
--- dims, in it a value for each one of a kernel
+-- rows of the given number and width are the rows of an operand: a row for each index list of the
+-- result dims rs, in it a value for each index list of the kernel's dims ks
 pub record IsUnderKernel (rows width : ℕ) (value : ℕ → ℕ → ℤ) (values : List ℤ)
     (axes ds ks rs : List ℕ) : Type 0 where
   pub count : rows ≡ size_of rs
@@ -14,7 +14,7 @@ pub record IsUnderKernel (rows width : ℕ) (value : ℕ → ℕ → ℤ) (value
   pub each : (x q : ℕ) → x < rows → q < width
       → value x q ≡ value_in values (place ds (window_index axes (index_of ks q) (index_of rs x)))
 
--- one row, which has all values in their order
+-- one row, which has all values in order
 pub record IsOneRow (rows width : ℕ) (value : ℕ → ℕ → ℤ) (values : List ℤ) (count : ℕ) :
     Type 0 where
   pub one : rows ≡ 1

@@ -1,4 +1,5 @@
-//! The whole tensor of an expression, on one thread.
+//! `eval_plain`: the whole tensor of an expression, on one thread. plain_run, uses and
+//! prepared_expressions evaluate by it, and tests compare other ways of evaluation with it.
 
 ghost use Rattle.std.specs.Prelude.{◌≡◌, List, ℕ, length, IsTrue, IsOk, IfOk};
 ghost use Rattle.tensor_shape.specs.Index.{IsIndexOf};
@@ -12,8 +13,8 @@ use crate::evaluator::TensorEvaluator;
 use std::alloc::{AllocError, Global};
 use tensor_terms::{Expr, Inputs, Tensor};
 
-/// The tensor whose value at each index list is the expression's: its values at the range of all
-/// places.
+/// Returns the tensor whose value at each index list is the value of the expression. An error is an
+/// allocation that failed.
 pub fn eval_plain(
     alloc: Global,
     expr: &Expr,

@@ -1,4 +1,6 @@
-//! Expressions made ready to be evaluated by ranges of places.
+//! The last operation of an expression, made ready to be evaluated by ranges of places. A new
+//! operation that needs lists for operands is added here and in `lowering`; specs/private/Root
+//! defines the values.
 
 ghost use Rattle.std.specs.Prelude.{◌≡◌, ◌<◌, ◌≤◌, ◌+◌, ◌-◌, ℕ, length, map, IsTrue, IsOk, IfOk};
 ghost use Rattle.std.specs.Prelude.{OnOk};
@@ -26,12 +28,11 @@ use tensor_kernels::Contraction;
 use tensor_shape::Dims;
 use tensor_terms::{Binary, Expr, Node, Tensors, Unary};
 
-/// How many places of operands are worked out, all together, when an expression is lowered: 256 KiB
-/// of values.
+/// The most places of operands of broadcasts that are evaluated when an expression is lowered, all
+/// together: 256 KiB of values.
 pub(crate) const MOST_STORED: usize = 32_768;
 
-/// What the values of an expression are asked of: a reduction, a contraction or what goes along an
-/// axis where that is its last operation.
+/// An expression made ready: a lowered tree, or the last operation with its operands as lists.
 pub(crate) enum Root<'a> {
     Lowered(Lowered<'a>),
     Reduction(Reduction<'a>),
@@ -39,7 +40,7 @@ pub(crate) enum Root<'a> {
     Along(LineResults<'a>),
 }
 
-// Said once, where a derived drop is unfolded wherever one may be dropped.
+// Written out, as a derived drop would be unfolded in each proof that drops a root.
 impl Drop for Root<'_> {
     fn drop(self) {
         match self {
@@ -51,7 +52,7 @@ impl Drop for Root<'_> {
 impl<'a> Root<'a> {
     ghost use Rattle.tensor_ops.specs.private.Root.{root_value, root_count, IsSoundRoot};
 
-    /// The root of an expression, and its result dims.
+    /// Returns the root of an expression and its result dims.
     pub(crate) fn of(
         alloc: Global,
         expr: &Expr,
@@ -99,8 +100,8 @@ impl<'a> Root<'a> {
         }
     }
 
-    /// The values at the places from the first to before the last, in order, in memory of their
-    /// own allocator.
+    /// Returns the values at the places `[first, last)`, in order. `target` allocates the values,
+    /// `alloc` what is needed meanwhile.
     pub(crate) fn values<A: Allocator>(
         &self,
         alloc: Global,
@@ -122,7 +123,7 @@ impl<'a> Root<'a> {
         }
     }
 
-    /// Writes the values at the places from the first to before the last, whatever stands there.
+    /// Writes the values at the places `[first, last)` to `out`.
     pub(crate) fn fill(
         &self,
         alloc: Global,
@@ -148,7 +149,7 @@ impl<'a> Root<'a> {
     }
 }
 
-/// An expression, lowered and sunk.
+/// Returns an expression, lowered and sunk, and its dims.
 fn lower_and_sink<'a>(
     alloc: Global,
     expr: &Expr,

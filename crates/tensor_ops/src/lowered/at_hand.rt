@@ -1,4 +1,5 @@
-//! What a lowered expression has at hand: its values, or some of them, where they take no operation.
+//! What a lowered expression has at hand: values that take no operation. `filling`, `lowered`,
+//! `chaining` and `operands` ask for these before they allocate.
 
 ghost use Rattle.std.specs.Prelude.{◌≡◌, length, map, IfSome};
 ghost use Rattle.tensor_ops.specs.private.Meaning.{meaning, count_of, IsSound};
@@ -10,7 +11,8 @@ use tensor_loops::Others;
 use tensor_views::{Places, Reading};
 
 impl Lowered<'_> {
-    /// Whether a value takes no operation: it is in a list, at its place or along a view.
+    /// Returns whether each value is in a list, at its own place or along a view, or is the one
+    /// value of all places. So reading a value takes no operation.
     pub(crate) fn is_at_hand(&self) -> bool {
         match self {
             Lowered::Borrowed(_) | Lowered::Stored(_) | Lowered::Filled(_, _) => true,
@@ -19,7 +21,7 @@ impl Lowered<'_> {
         }
     }
 
-    /// What is read, where it is a list along a view.
+    /// Returns the list and the view, if this is a view of a list.
     pub(crate) fn reading(&self) -> Option<Reading<'_>>
         requires { IsSound self.now }
         ensures { IfSome result (IsReadingOf self.now) }
@@ -34,7 +36,7 @@ impl Lowered<'_> {
         })
     }
 
-    /// Its values at places, where these are a run and it is a list.
+    /// Returns the values at places as a slice, if the places are a run and this is a list.
     pub(crate) fn run(&self, places: &Places<'_>) -> Option<&[i64]>
         requires { AreBelow places.now (count_of self.now) }
         ensures { IfSome result (λ values. values.now
@@ -47,7 +49,8 @@ impl Lowered<'_> {
         Some(&list[*first..*last])
     }
 
-    /// Its values at places as they stand second in a loop, where no memory is needed for them.
+    /// Returns the values at places as the second operand of a loop, if that takes no memory: one
+    /// value, or a slice of a list.
     pub(crate) fn others(&self, places: &Places<'_>) -> Option<Others<'_>>
         requires { AreBelow places.now (count_of self.now) }
         ensures { IfSome result (λ others. AreOthers others
@@ -59,7 +62,7 @@ impl Lowered<'_> {
         Some(Others::Listed(self.run(places)?))
     }
 
-    /// Whether it is one value at all its places.
+    /// Returns whether all places have one value.
     pub(crate) fn is_filled(&self) -> bool {
         match self {
             Lowered::Filled(_, _) => true,
@@ -67,7 +70,7 @@ impl Lowered<'_> {
         }
     }
 
-    /// Its values, where they are a list.
+    /// Returns the values, if this is a list.
     pub(crate) fn list(&self) -> Option<&[i64]>
         ensures { IfSome result (λ values. IsListOf self.now values.now) }
     {

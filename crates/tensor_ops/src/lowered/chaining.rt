@@ -1,4 +1,5 @@
-//! Operations that read one operand again and again become a chain, for which it is read once.
+//! Chains: several operations with equal second operands become one node, so that one operand is
+//! read once. `sinking` makes nodes by this; tensor_loops evaluates chains.
 
 ghost use Rattle.std.specs.Prelude.{◌≡◌, ℕ, IfOk, IsTrue};
 ghost use Rattle.tensor_loops.specs.Loops.{either_way};
@@ -11,8 +12,8 @@ use std::alloc::{AllocError, Global};
 use tensor_loops::{Link, are_same};
 
 impl<'a> Lowered<'a> {
-    /// An operation on each value and another one's. Where this is an operation that reads what the
-    /// other one reads, too, they become a chain.
+    /// Returns an operation on each value of this and of another expression. If this already is an
+    /// operation or a chain with an equal second operand, the result is a chain.
     pub(crate) fn chained(
         self,
         alloc: Global,
@@ -40,7 +41,8 @@ impl<'a> Lowered<'a> {
     }
 }
 
-/// Whether two operands are seen to have the same values: both read lists along views.
+/// Returns whether two operands are seen to have the same values: both read lists along one view,
+/// and the lists are short and equal.
 fn read_the_same(first: &Lowered<'_>, second: &Lowered<'_>) -> bool
     requires first { IsSound first.now }
     requires second { IsSound second.now }

@@ -1,4 +1,5 @@
-//! The values of lowered expressions, written where they are wanted.
+//! Writes the values of lowered expressions into an existing list. `values_at` in `lowered`
+//! computes the same values into new lists: a new kind of node needs both.
 
 ghost use Rattle.std.specs.Prelude.{◌≡◌, ◌<◌, ◌≤◌, ◌-◌, ◌+◌, ◌^◌, ℕ, length, OnOk};
 ghost use Rattle.tensor_ops.specs.private.Meaning.{meaning, count_of, IsSound};
@@ -10,9 +11,8 @@ use tensor_loops::{Tiled, apply, combine_chain, put_along, put_applied, put_comb
 use tensor_views::Places;
 
 impl Lowered<'_> {
-    /// Writes the values at the places from the first to before the last, whatever stands there: by
-    /// tiles, where they are read along a view that takes neighbours of a list far apart, and else
-    /// piece by piece.
+    /// Writes the values at the places `[first, last)`: by tiles, if this reads a list along a view
+    /// that takes neighbours far apart, or else piece by piece.
     pub(crate) fn fill(
         &self,
         alloc: Global,
@@ -44,8 +44,8 @@ impl Lowered<'_> {
     }
 }
 
-/// Writes the values at the places from one to before another. Those of an operation are worked out
-/// where they are written, from its first operand's, which are written there before.
+/// Writes the values at the places `[from, to)`. The first operand of an operation is written to
+/// `out`, and the operation is then applied there.
 fn fill_piece(
     alloc: Global,
     lowered: &Lowered<'_>,
@@ -95,8 +95,8 @@ fn fill_piece(
     Ok(())
 }
 
-/// The same of what is no operation, from a place on: what is read along a view is written as it is
-/// read.
+/// Writes the values of an expression that is no operation on values, from place `from` on. A list
+/// that is read along a view is read straight to `out`.
 fn fill_read(
     alloc: Global,
     lowered: &Lowered<'_>,

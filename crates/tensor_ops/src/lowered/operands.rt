@@ -1,4 +1,5 @@
-//! Lowered expressions as operands of contractions.
+//! Lowered expressions as operands of contractions: `Operand` says whether values are in order or
+//! read along a view. The contracts meet `operands` in specs/private/Operand.
 
 ghost use Rattle.std.specs.Prelude.{◌≡◌, ◌<◌, ◌≤◌, ℕ, length, IfOk};
 ghost use Rattle.std.specs.Cow.{cow_slice_items};
@@ -19,13 +20,14 @@ use std::borrow::CowSlice;
 use tensor_shape::Dims;
 use tensor_views::View;
 
-/// How many values a list has at most for each place of a view along which it is read: all of them
-/// are looked at, to see whether they are small. Of a longer list those along the view are stored.
+/// The most values of a list for each place of a view along which a contraction reads it. All
+/// values of the list are read, to find out whether they fit 32 bits. So of a longer list the
+/// values along the view are stored.
 const MOST_FOR_A_PLACE: usize = 8;
 
 impl<'a> Lowered<'a> {
-    /// All its values, where it has these dims: in a list along a view where it is a movement of
-    /// one, and else in order.
+    /// Returns all values, if this has the given dims: a list and a view if this is a movement of a
+    /// list, or else the values in order.
     pub(crate) fn into_operand(self, alloc: Global, dims: &Dims) -> Result<Operand<'a>, AllocError>
         requires sound { IsSound self }
         requires count { count_of self ≡ size_of dims.now }
@@ -36,7 +38,7 @@ impl<'a> Lowered<'a> {
         sunk.operand(alloc, dims)
     }
 
-    /// The same of one that is sunk.
+    /// Returns all values of a sunk expression: a list and a view, or the values in order.
     fn operand(self, alloc: Global, dims: &Dims) -> Result<Operand<'a>, AllocError>
         requires sound { IsSound self }
         requires count { count_of self ≡ size_of dims.now }
@@ -52,7 +54,8 @@ impl<'a> Lowered<'a> {
         }
     }
 
-    /// Whether it is read, at so many places, along a view in a list that is much longer.
+    /// Returns whether this reads a list along a view with far fewer places, `count`, than the list
+    /// has.
     fn is_sparse(&self, count: usize) -> bool
         requires { IsSound self.now }
     {
@@ -62,7 +65,8 @@ impl<'a> Lowered<'a> {
         }
     }
 
-    /// What it has at the places of a view, which are those of these dims.
+    /// Returns the values at the places of a view, which has the given dims: this list and the
+    /// view, or the values in order if this isn't a list.
     fn along(self, alloc: Global, view: View, dims: &Dims) -> Result<Operand<'a>, AllocError>
         requires sound { IsSound self }
         requires few { count_of self ≤ most_elements }
@@ -89,8 +93,8 @@ impl<'a> Lowered<'a> {
         }
     }
 
-    /// All its values in order, where it is sunk and has these dims: lent where they are an
-    /// input's.
+    /// Returns all values of a sunk expression in order: borrowed if they are an input's, or else
+    /// computed.
     pub(crate) fn worked_out(
         self,
         alloc: Global,

@@ -1,5 +1,6 @@
-//! Sinking: the views of a lowered expression go down to what is read by places, where they become
-//! one view each; what is worked out is then worked out in order.
+//! Sinking: each view goes down the tree to what is read by places, and is composed with the views
+//! that it meets. Operations are then computed in order. What a sunk tree means is defined in
+//! specs/private/Sinking.
 
 ghost use Rattle.std.specs.Prelude.{◌≡◌, ◌<◌, ◌≤◌, ◌+◌, ℕ, IfOk};
 ghost use Rattle.tensor_shape.specs.Index.{size_of};
@@ -19,7 +20,7 @@ use tensor_shape::Dims;
 use tensor_values::{Turns, UnaryScalar};
 use tensor_views::{View, ViewRef};
 
-/// A lowered expression of these dims, sunk.
+/// Returns a lowered expression with the given dims, sunk. One without values stays as it is.
 pub(crate) fn sunk_over<'a>(
     alloc: Global,
     lowered: Lowered<'a>,
@@ -36,8 +37,8 @@ pub(crate) fn sunk_over<'a>(
 }
 
 impl<'a> Lowered<'a> {
-    /// The same with its views at what is read by places. One over another view is left where the
-    /// two can't be one.
+    /// Returns this expression with its views at what is read by places. A view over another view
+    /// stays if the two can't be one.
     #[cycle(sunk)]
     fn sunk(self, alloc: Global) -> Result<Lowered<'a>, AllocError>
         requires sound { IsSound self }
@@ -71,7 +72,7 @@ impl<'a> Lowered<'a> {
         }
     }
 
-    /// The same at the places of a view, which goes down to what is read by places.
+    /// Returns this expression at the places of a view, which goes down to what is read by places.
     #[cycle(sunk)]
     fn composed(self, alloc: Global, view: ViewRef<'_>) -> Result<Lowered<'a>, AllocError>
         requires sound { IsSound self }
@@ -119,7 +120,7 @@ impl<'a> Lowered<'a> {
     }
 }
 
-/// A lowered expression at the places of a view that is lent.
+/// Returns a lowered expression at the places of a borrowed view, which is copied.
 fn view_along<'a>(
     alloc: Global,
     lowered: Lowered<'a>,
@@ -136,7 +137,7 @@ fn view_along<'a>(
     view_over(alloc, lowered, view)
 }
 
-/// A lowered expression at the places of a view.
+/// Returns a lowered expression at the places of a view.
 pub(crate) fn view_over<'a>(
     alloc: Global,
     lowered: Lowered<'a>,
@@ -153,7 +154,7 @@ pub(crate) fn view_over<'a>(
     Ok(Lowered::View(view, lowered))
 }
 
-/// An operation on each value.
+/// Returns an operation on each value.
 fn each<'a>(
     alloc: Global,
     operation: UnaryScalar,
@@ -167,7 +168,7 @@ fn each<'a>(
     Ok(Lowered::Unary(operation, operand))
 }
 
-/// An operation on each two values.
+/// Returns an operation on each two values.
 pub(crate) fn both<'a>(
     alloc: Global,
     link: Link,
@@ -186,7 +187,7 @@ pub(crate) fn both<'a>(
     Ok(Lowered::Binary(link, first, second))
 }
 
-/// Select on each three values.
+/// Returns a select on each three values.
 pub(crate) fn all<'a>(
     alloc: Global,
     order: SelectOrder,
@@ -208,7 +209,7 @@ pub(crate) fn all<'a>(
     Ok(Lowered::Select(order, first, second, third))
 }
 
-/// Two operands in turns.
+/// Returns two operands in turns.
 fn in_turns<'a>(
     alloc: Global,
     turns: Turns,

@@ -1,4 +1,5 @@
-//! Operations along one axis, and takes, of lowered operands.
+//! Operations along one axis, and takes, of lowered operands. `evaluator::root` evaluates these by
+//! ranges; below the root they are evaluated here.
 
 ghost use Rattle.std.specs.Prelude.{◌≡◌, Ok, IsOk, IfOk};
 ghost use Rattle.tensor_ops.specs.private.LineResults.{places_along, value_along};
@@ -16,7 +17,7 @@ use tensor_scans::LineOperation;
 use tensor_shape::{Dims, WIDEST};
 use tensor_terms::{along_dims, lines_along, taken_dims};
 
-/// An operation along an axis of an operand, and its result dims.
+/// Returns an operation along an axis of an operand, made ready, and its result dims.
 pub(crate) fn along_of<'a>(
     alloc: Global,
     operation: LineOperation,
@@ -43,8 +44,8 @@ pub(crate) fn along_of<'a>(
     Ok((along, dims))
 }
 
-/// A take along an axis of the first operand at the numbers that the second has, and its result
-/// dims.
+/// Returns a take along an axis of the first operand, at the numbers that the second has, made
+/// ready, and its result dims.
 pub(crate) fn take_of<'a>(
     alloc: Global,
     axis: u64,
@@ -76,7 +77,7 @@ pub(crate) fn take_of<'a>(
     Ok((along, dims))
 }
 
-/// An operation along an axis, worked out.
+/// Returns an operation along an axis, evaluated.
 pub(crate) fn lower_along<'a>(
     alloc: Global,
     operation: LineOperation,
@@ -95,7 +96,7 @@ pub(crate) fn lower_along<'a>(
     worked_out(alloc, along, dims)
 }
 
-/// A take along an axis, worked out.
+/// Returns a take along an axis, evaluated.
 pub(crate) fn lower_take<'a>(
     alloc: Global,
     axis: u64,
@@ -118,7 +119,7 @@ pub(crate) fn lower_take<'a>(
     worked_out(alloc, along, dims)
 }
 
-/// What lines give that were made ready, with these result dims, worked out.
+/// Returns the values of lines that were made ready, as a list with the given dims.
 fn worked_out<'a>(alloc: Global, along: LineResults<'_>, dims: Dims) -> Result<Part<'a>, AllocError>
     requires { places_along along ≡ size_of dims }
     ensures dims { IfOk result (λ r. r.dims ≡ dims) }

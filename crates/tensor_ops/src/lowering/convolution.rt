@@ -1,4 +1,5 @@
-//! Convolutions of lowered operands.
+//! Convolutions of lowered operands. `evaluator::root` evaluates one by ranges; below the root it
+//! is evaluated here.
 
 ghost use Rattle.std.specs.Prelude.{◌≡◌, Ok, IsOk, IfOk};
 ghost use Rattle.tensor_shape.specs.Index.{size_of};
@@ -16,7 +17,8 @@ use tensor_kernels::Contraction;
 use tensor_shape::Dims;
 use tensor_terms::convolved_dims;
 
-/// A convolution along axes, the second operand the kernel, and its result dims.
+/// Returns a convolution along axes, made ready, and its result dims. The second operand is the
+/// kernel.
 pub(crate) fn convolution_of<'a>(
     alloc: Global,
     axes: &[u64],
@@ -43,7 +45,7 @@ pub(crate) fn convolution_of<'a>(
     Ok((Contraction::of_runs(runs, row), dims))
 }
 
-/// A convolution, worked out.
+/// Returns a convolution, evaluated.
 pub(crate) fn lower_convolution<'a>(
     alloc: Global,
     axes: &[u64],

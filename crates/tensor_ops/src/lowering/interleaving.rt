@@ -1,4 +1,4 @@
-//! Concatenations and pads of lowered operands.
+//! Concatenations and pads of lowered operands. Both become two operands in turns.
 
 ghost use Rattle.std.specs.Prelude.{◌≡◌, ℕ, pos, ◌+◌, ◌<◌, length, slice_index, slice_set};
 ghost use Rattle.std.specs.Prelude.{Ok, IsOk, IfOk};
@@ -16,7 +16,7 @@ use std::alloc::{AllocError, Global};
 use tensor_shape::{Dims, PerAxis, WIDEST};
 use tensor_terms::{concatenated_dims, extend, turns_along};
 
-/// A concatenation along an axis, lowered.
+/// Returns a concatenation along an axis, lowered.
 pub(crate) fn lower_concatenation<'a>(
     alloc: Global,
     axis: u64,
@@ -60,7 +60,7 @@ pub(crate) fn lower_concatenation<'a>(
     })
 }
 
-/// A pad, lowered.
+/// Returns a pad, lowered: zeroes are concatenated at both ends of each axis.
 pub(crate) fn lower_pad<'a>(
     alloc: Global,
     pairs: &[(u64, u64)],
@@ -82,7 +82,7 @@ pub(crate) fn lower_pad<'a>(
     Ok(padded)
 }
 
-/// A part with so many zeroes before it and behind it along an axis.
+/// Returns a part with the given numbers of zeroes before it and after it along an axis.
 fn with_zeroes<'a>(
     alloc: Global,
     axis: usize,
@@ -107,7 +107,7 @@ fn with_zeroes<'a>(
     lower_concatenation(alloc, axis as u64, part, back)
 }
 
-/// Zeroes of dims that are these but for the size along an axis.
+/// Returns zeroes with the given dims, except that they have the given size along an axis.
 fn zeroes<'a>(axis: usize, size: u64, dims: &Dims) -> Part<'a>
     requires axis { axis < length dims.now }
     requires legal { IsLegal (slice_set dims.now axis size) }

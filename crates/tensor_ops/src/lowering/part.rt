@@ -1,4 +1,4 @@
-//! Parts of lowered expressions.
+//! What lowering returns for each part of an expression.
 
 use crate::lowered::Lowered;
 use tensor_shape::Dims;
@@ -8,6 +8,6 @@ use tensor_shape::Dims;
 pub(crate) struct Part<'a> {
     pub(crate) lowered: Lowered<'a>,
     pub(crate) dims: Dims,
-    /// How many pieces are held at once while its values are worked out.
+    /// The most pieces that are held at once while the values are computed.
     pub(crate) pieces: u32,
 }

@@ -1,4 +1,5 @@
 //! Reductions and contractions of lowered operands, made ready for ranges of places.
+//! `evaluator::root` and `part_evaluator` take them so; below the root they are evaluated here.
 
 ghost use Rattle.std.specs.Prelude.{◌≡◌, Ok, IsOk, IfOk};
 ghost use Rattle.tensor_shape.specs.Legal.{widest};
@@ -21,7 +22,7 @@ use tensor_shape::{Dims, WIDEST};
 use tensor_terms::{contracted_dims, reduced_dims};
 use tensor_values::Reducer;
 
-/// A reduction of an operand over axes, and its result dims.
+/// Returns a reduction of an operand over axes, made ready, and its result dims.
 pub(crate) fn reduction_of<'a>(
     alloc: Global,
     reducer: Reducer,
@@ -42,7 +43,7 @@ pub(crate) fn reduction_of<'a>(
     Ok((reduction, dims))
 }
 
-/// A contraction of two operands over pairs of axes, and its result dims.
+/// Returns a contraction of two operands over pairs of axes, made ready, and its result dims.
 pub(crate) fn contraction_of<'a>(
     alloc: Global,
     pairs: &[(u64, u64)],
@@ -68,7 +69,7 @@ pub(crate) fn contraction_of<'a>(
     Ok((contraction, dims))
 }
 
-/// A reduction, worked out.
+/// Returns a reduction, evaluated.
 pub(crate) fn lower_reduction<'a>(
     alloc: Global,
     reducer: Reducer,
@@ -92,7 +93,7 @@ pub(crate) fn lower_reduction<'a>(
     })
 }
 
-/// A contraction, worked out.
+/// Returns a contraction, evaluated.
 pub(crate) fn lower_contraction<'a>(
     alloc: Global,
     pairs: &[(u64, u64)],
@@ -115,7 +116,7 @@ pub(crate) fn lower_contraction<'a>(
     worked_out(alloc, contraction, dims)
 }
 
-/// A contraction of these result dims that was made ready, worked out.
+/// Returns a contraction that was made ready, evaluated, with the given result dims.
 pub(crate) fn worked_out<'a>(
     alloc: Global,
     contraction: Contraction<'a>,

@@ -1,5 +1,5 @@
-//! Operations along lines of values that are there, and takes of them, by ranges of places of the
-//! result.
+//! Operations along lines of a list, and takes of lines, by ranges of places of the result. The
+//! values are defined in specs/private/LineResults.
 
 ghost use Rattle.std.specs.Prelude.{◌≡◌, ◌<◌, ◌≤◌, ◌+◌, ◌-◌, ℕ, length, map, IfOk};
 ghost use Rattle.std.specs.Cow.{cow_slice_items};
@@ -11,18 +11,18 @@ use std::alloc::{AllocError, Allocator, Global};
 use std::borrow::CowSlice;
 use tensor_scans::{AlongLines, LineOperation, Lines, TakenLines};
 
-/// What becomes of each line.
+/// What is done with each line.
 #[derive(Drop)]
 pub(crate) enum PerLine<'a> {
-    /// What an operation gives along it.
+    /// An operation along the line.
     Operation(LineOperation),
-    /// Its values at these numbers.
+    /// A take of the line's values at these numbers.
     Taken(CowSlice<'a, i64, Global>),
 }
 
-/// Lines of values, made ready for what becomes of them to be worked out by ranges of places. They
-/// are made ready once; all who work on ranges share them. A range of a cumulative operation reads
-/// what is before it in its lines.
+/// Lines of a list, made ready to be evaluated by ranges of places of the result. All threads that
+/// evaluate ranges share them. A range of a cumulative operation reads its lines from their
+/// beginning.
 #[derive(Drop)]
 pub(crate) struct LineResults<'a> {
     pub(crate) lines: Lines,
@@ -34,8 +34,8 @@ pub(crate) struct LineResults<'a> {
 impl<'a> LineResults<'a> {
     ghost use Rattle.tensor_ops.specs.private.LineResults.{places_along, value_along};
 
-    /// The values at the places from the first to before the last of the result, in order. Takes
-    /// memory for them.
+    /// Returns the values at the places `[first, last)` of the result, in order. `alloc` allocates
+    /// them.
     pub(crate) fn values<A: Allocator>(
         &self,
         alloc: A,
@@ -52,8 +52,8 @@ impl<'a> LineResults<'a> {
         Ok(values)
     }
 
-    /// Writes the values from a place of the result on, as many as there is room for, in order,
-    /// whatever stands there. Takes no memory.
+    /// Writes the values of the places from `first` of the result on, in order, as many as `out`
+    /// has room for. Takes no memory.
     pub(crate) fn fill(&self, first: usize, out: &mut [i64])
         requires { first + length out.old ≤ places_along self.now }
         ensures len { length out.new ≡ length out.old }

@@ -1,4 +1,5 @@
-//! Contractions of operands over pairs of their axes.
+//! Contractions of operands over pairs of their axes. Here the layout of the operands is chosen, as
+//! slices or as rows by tables; the contraction itself is in tensor_kernels.
 
 ghost use Rattle.std.specs.Prelude.{◌≡◌, ◌<◌, ℕ, IfOk, IsOk};
 ghost use Rattle.tensor_shape.specs.Legal.{widest};
@@ -16,14 +17,15 @@ use tensor_kernels::{Contraction, TILED_ROWS};
 use tensor_shape::Dims;
 use tensor_terms::paired_axes;
 
-/// The shortest rows that are taken as slices. Shorter ones cost more to find than to pass.
+/// The shortest rows that are taken as slices. Shorter ones take more time to find than to sum.
 const SHORTEST_STRIP: usize = 64;
 
-/// The contraction of two operands of these dims over pairs of their axes, whose values it
-/// holds. Takes a number for each kept index list of each operand, and one for each paired one,
-/// but of these none where the rows are taken as slices. What is read along a view is not stored, but
-/// where the rows are taken as slices or a carry along the view comes between a row's start and its
-/// values.
+/// Returns the contraction of two operands over pairs of their axes. Takes a number for each kept
+/// index list of each operand. If the rows aren't taken as slices, it also takes one for each
+/// paired index list.
+///
+/// An operand that is read along a view is stored only if the rows are taken as slices, if an axis
+/// of the view is reversed, or if adding the places of its two tables carries along the view.
 pub(crate) fn paired_contraction<'a>(
     alloc: Global,
     first_dims: &Dims,

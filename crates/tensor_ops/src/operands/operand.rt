@@ -1,5 +1,5 @@
-//! Operands of contractions: their values in order, or a list that is read along a view, so that
-//! what a movement reads is not stored once more.
+//! Operands of contractions: values in order, or a list that is read along a view, so that a
+//! movement of a list isn't stored. The values are defined in specs/private/Operand.
 
 ghost use Rattle.std.specs.Prelude.{◌≡◌, ◌<◌, ◌≤◌, ℕ, length, IfOk};
 ghost use Rattle.std.specs.Cow.{cow_slice_items};
@@ -25,16 +25,16 @@ pub(crate) struct Viewed<'a> {
 /// The values of an operand at all its places.
 #[derive(Drop)]
 pub(crate) enum Operand<'a> {
-    /// One after the other.
+    /// A list of the values in order.
     InOrder(CowSlice<'a, i64, Global>),
-    /// In a list, along a view.
+    /// A list and the view along which it is read.
     Along(Viewed<'a>),
 }
 
 impl<'a> Viewed<'a> {
     ghost use Rattle.tensor_ops.specs.private.Operand.{viewed_count, viewed_value};
 
-    /// Its values one after the other, which it has so many of.
+    /// Returns the values in order. `count` is their number.
     pub(crate) fn into_list(
         self,
         alloc: Global,
@@ -57,7 +57,7 @@ impl<'a> Viewed<'a> {
 impl<'a> Operand<'a> {
     ghost use Rattle.tensor_ops.specs.private.Operand.{operand_count, operand_at};
 
-    /// Its values one after the other, which it has so many of.
+    /// Returns the values in order. `count` is their number.
     pub(crate) fn into_list(
         self,
         alloc: Global,

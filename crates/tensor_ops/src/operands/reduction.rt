@@ -1,4 +1,5 @@
-//! Reductions of values that are there, by ranges of places of the result.
+//! Reductions of a list, by ranges of places of the result. The values are defined in
+//! specs/private/Reduced; the loops are in tensor_loops.
 
 ghost use Rattle.std.specs.Prelude.{◌≡◌, ◌<◌, ◌≤◌, ◌+◌, ◌-◌, ◌*◌, ℕ, length, map, slice_index};
 ghost use Rattle.std.specs.Prelude.{IfOk};
@@ -17,24 +18,26 @@ use tensor_terms::{among, next_among, next_other, others, span};
 use tensor_values::Reducer;
 use tensor_views::offsets;
 
-/// A reduction over axes, made ready to be worked out by ranges of places. It is made once; all who
-/// work on ranges of it share it. The operand is seen as rows, which are the values along the axes
-/// before the first dropped one and lie side by side. The rows along this axis and the dropped ones
-/// that follow it lie one after the other, in a run. Values are combined in the order of the
-/// dropped index lists' places.
+/// A reduction over axes, made ready to be evaluated by ranges of places. All threads that evaluate
+/// ranges share it.
+///
+/// The operand is seen as rows: the values along the axes before the first dropped one, which lie
+/// side by side. The rows along the first dropped axis and the dropped axes right after it lie one
+/// after the other, in a run. Values are combined in the order of the places of the dropped index
+/// lists.
 #[derive(Drop)]
 pub(crate) struct Reduction<'a> {
     reducer: Reducer,
     values: CowSlice<'a, i64, Global>,
-    /// How many values a row has.
+    /// The number of values of a row.
     width: usize,
-    /// How many rows a run has.
+    /// The number of rows of a run.
     run: usize,
-    /// Where the first of the rows begins that are combined into a row of the result: a number for
-    /// each index list of the kept axes after the first run.
+    /// For each row of the result, the place of the first row that is combined into it. There is
+    /// one for each index list of the kept axes after the first run.
     rows: Vec<usize>,
-    /// How much further their runs begin: a number for each index list of the dropped axes after
-    /// the first run.
+    /// For each run of a row of the result, how far it begins behind the first one. There is one
+    /// for each index list of the dropped axes after the first run.
     offsets: Vec<usize>,
     ghost few: { length (cow_slice_items values) ≤ most_elements },
     ghost narrow: { width ≤ most_elements },
@@ -52,9 +55,10 @@ impl<'a> Reduction<'a> {
     ghost use Rattle.tensor_terms.specs.Reduction.{reduced};
     ghost use Rattle.tensor_terms.specs.Merged.{other_dims};
 
-    /// A reduction of the values of a tensor over axes. Those past its rank are left out.
-    /// Takes eight bytes for each index list of the kept axes after the first run, and for each of
-    /// the dropped ones there: about 8 MiB at most, and mostly far less.
+    /// Returns a reduction of the values of a tensor over axes. Axes past the rank are ignored.
+    /// Takes 8 bytes for each index list of the kept axes after the first run, and for each of the
+    /// dropped axes there. This is at most 8 bytes for each element of the operand, and mostly far
+    /// less.
     pub(crate) fn of(
         alloc: Global,
         reducer: Reducer,
@@ -86,8 +90,8 @@ impl<'a> Reduction<'a> {
         })
     }
 
-    /// The values at the places from the first to before the last of its result, in order. Takes
-    /// memory for them.
+    /// Returns the values at the places `[first, last)` of the result, in order. `alloc` allocates
+    /// them.
     pub(crate) fn values<A: Allocator>(
         &self,
         alloc: A,
@@ -104,8 +108,8 @@ impl<'a> Reduction<'a> {
         Ok(values)
     }
 
-    /// Writes the values from a place of its result on, as many as there is room for, in order,
-    /// whatever stands there. Takes no memory.
+    /// Writes the values of the places from `first` of the result on, in order, as many as `out`
+    /// has room for. Takes no memory.
     pub(crate) fn fill(&self, first: usize, out: &mut [i64])
         requires { first + length out.old ≤ places_of_result self.now }
         ensures len { length out.new ≡ length out.old }
@@ -116,7 +120,8 @@ impl<'a> Reduction<'a> {
         self.combine(first, out);
     }
 
-    /// Combines with each value those that belong to its place of the result, from the first on.
+    /// Combines each value of `target` with the operand's values for its place of the result. The
+    /// first value is at place `first`.
     fn combine(&self, first: usize, target: &mut [i64])
         requires { first + length target.old ≤ places_of_result self.now }
         ensures len { length target.new ≡ length target.old }
@@ -133,7 +138,8 @@ impl<'a> Reduction<'a> {
         }
     }
 
-    /// Combines row by row, of which the first and the last may be parts of rows.
+    /// Combines row by row, with a reducer that is known where this is compiled. The first and the
+    /// last row may be parts of rows.
     #[inline(always)]
     fn combine_by(&self, reducer: Reducer, first: usize, target: &mut [i64])
         requires { first + length target.old ≤ places_of_result self.now }

@@ -1,5 +1,6 @@
-//! An operand of a contraction as rows: a row for each index list of the axes that are kept, and
-//! in it a value for each index list of the paired ones. The kernel of a convolution is one row.
+//! An operand of a contraction as rows by tables: a row for each kept index list, in it a value for
+//! each paired index list. The kernel of a convolution is one row. specs/private/OperandRows
+//! defines the values.
 
 ghost use Rattle.std.specs.Prelude.{◌≡◌, ◌<◌, length};
 ghost use Rattle.std.specs.Prelude.{IsTrue, IfOk};
@@ -20,9 +21,9 @@ use tensor_kernels::Rows;
 use tensor_shape::Dims;
 use tensor_views::{ViewRef, are_apart, map_through, tables};
 
-/// An operand of these dims, whose paired axes are these, in their order. Takes a number for
-/// each of its rows, and one for each value of a row. A list along a view is not stored once
-/// more, but where a carry along it comes between a row's start and its values.
+/// Returns the rows of an operand with the given dims and paired axes. Takes a number for each row,
+/// and one for each value of a row. A list along a view is stored in order only if an axis is
+/// reversed, or if adding a row's start and an offset carries along the view.
 pub(crate) fn rows_of<'a>(
     alloc: Global,
     dims: &Dims,
@@ -41,7 +42,7 @@ pub(crate) fn rows_of<'a>(
     }
 }
 
-/// An operand whose values lie in order.
+/// Returns the rows of an operand whose values lie in order.
 fn rows_in_order<'a>(
     alloc: Global,
     dims: &Dims,
@@ -58,8 +59,8 @@ fn rows_in_order<'a>(
     Ok(Rows::new(values, starts, offsets))
 }
 
-/// An operand whose values lie in a list along a view, which both tables are mapped along: the
-/// offsets from no start, since each is added to a row's.
+/// Returns the rows of an operand that is read along a view. Both tables are mapped along the view.
+/// The offsets are mapped from start 0, since each is added to the start of a row.
 fn rows_along<'a>(
     alloc: Global,
     dims: &Dims,
@@ -88,7 +89,7 @@ fn rows_along<'a>(
     Ok(Rows::new(viewed.list, starts, offsets))
 }
 
-/// One row, which has all values of these dims in their order. Takes a number for each.
+/// Returns one row with all values, in order. Takes a number for each value.
 pub(crate) fn one_row<'a>(
     alloc: Global,
     dims: &Dims,

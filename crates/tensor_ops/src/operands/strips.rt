@@ -1,5 +1,5 @@
-//! An operand of a contraction whose paired axes are its first ones, in order: the values of each
-//! of its rows lie side by side.
+//! An operand of a contraction as slices, if its paired axes are its first ones, in order.
+//! `operands::contraction` decides when they are used.
 
 ghost use Rattle.std.specs.Prelude.{◌≡◌, ◌<◌, ◌≤◌, length};
 ghost use Rattle.std.specs.Prelude.{IsTrue, IfOk};
@@ -20,8 +20,8 @@ use tensor_shape::Dims;
 use tensor_terms::{others, span};
 use tensor_views::offsets;
 
-/// An operand of these dims, whose paired axes are so many first ones. Takes a number for each
-/// of its rows.
+/// Returns the rows of an operand whose paired axes are its first ones. Takes a number for each
+/// row.
 pub(crate) fn strips_of<'a>(
     alloc: Global,
     dims: &Dims,
@@ -42,7 +42,8 @@ pub(crate) fn strips_of<'a>(
     Ok(Strips::new(values, starts, strip_width(dims, axes)))
 }
 
-/// How many values a row has where the paired axes are the first ones, in order, and else 0.
+/// Returns the number of values of a row if the paired axes are the first ones, in order, or else
+/// 0.
 pub(crate) fn strip_width(dims: &Dims, axes: &[u64]) -> usize
     requires { IsTrue (are_axes (length dims.now) axes.now) }
     ensures first { 0 < result → axes.now ≡ range_with_len 0 (length axes.now) }

@@ -1,5 +1,6 @@
-//! The operand of a convolution as runs: the places of the result along its first axis, for which
-//! what lies under a place of the kernel lies side by side.
+//! The operand of a convolution as runs: the places of the result along its first axis. In a run
+//! the values under a place of the kernel lie side by side. specs/private/Windows defines the
+//! values.
 
 ghost use Rattle.std.specs.Prelude.{◌≡◌, length};
 ghost use Rattle.std.specs.Prelude.{IfOk, Ok};
@@ -17,8 +18,8 @@ use tensor_shape::Dims;
 use tensor_terms::shuffled;
 use tensor_views::stepped_places;
 
-/// The operand of a convolution with these result dims. Takes a number for each of its runs,
-/// and one for each place of the kernel.
+/// Returns the runs of the operand of a convolution. `window_index` has the result's dims. Takes a
+/// number for each run, and one for each place of the kernel.
 pub(crate) fn windows_under_kernel<'a>(
     alloc: Global,
     axes: &[u64],
@@ -43,7 +44,8 @@ pub(crate) fn windows_under_kernel<'a>(
     Ok(Windows::new(values, starts, width, offsets))
 }
 
-/// How many first axes runs go along, one where there is one, and how many places a run has.
+/// Returns the number of first axes that a run goes along (1, or 0 if there is no axis), and the
+/// number of places of a run.
 fn first_run(sizes: &[u64]) -> (usize, usize)
     ensures axes { result.0 ≡ run_axes sizes.now }
     ensures width { result.1 ≡ run_width sizes.now }

@@ -1,6 +1,6 @@
-//! Values of a contraction that lie in runs: what is combined into one value of a result lies side
-//! by side. They are worked out as they are asked for, all of a call at once, since each range of a
-//! contraction's values is dear to begin.
+//! Values of a contraction in runs: the values that are combined into one value of a reduction lie
+//! side by side. A call computes all that it needs at once, since each range of a contraction takes
+//! time to begin. specs/private/ContractedRuns defines the values.
 
 ghost use Rattle.std.specs.Prelude.{◌≡◌, ◌<◌, ◌≤◌, ◌+◌, ◌-◌, ◌*◌, ◌++◌, length, map};
 ghost use Rattle.std.specs.Prelude.{true, IfOk};
@@ -22,14 +22,13 @@ use tensor_shape::Dims;
 use tensor_terms::{dims_at, other_dims};
 use tensor_values::Reducer;
 
-/// Runs of a contraction's values, one after the other. Nothing of them is held but what the
-/// contraction reads.
+/// A contraction whose values lie in runs, one after the other. None of the values is stored.
 #[derive(Drop)]
 pub(crate) struct ContractedRuns<'a> {
     contraction: Contraction<'a>,
-    /// How many values a run has.
+    /// The number of values of a run.
     pub(crate) length: usize,
-    /// How many runs there are.
+    /// The number of runs.
     pub(crate) count: usize,
     ghost whole: { contraction_count contraction ≡ length * count },
     ghost few: { length * count ≤ most_elements },
@@ -38,7 +37,8 @@ pub(crate) struct ContractedRuns<'a> {
 impl<'a> ContractedRuns<'a> {
     ghost use Rattle.tensor_ops.specs.private.ContractedRuns.{contracted_value, contracted_combined};
 
-    /// The values of a contraction along its first axes: a run for each index list of the others.
+    /// Returns the values of a contraction along its first axes: a run for each index list of the
+    /// other axes.
     pub(crate) fn along(
         axes: &[u64],
         contraction: Contraction<'a>,
@@ -53,7 +53,7 @@ impl<'a> ContractedRuns<'a> {
     {
         let length = dims_at(axes, dims).size() as usize;
         let count = other_dims(axes, dims).size() as usize;
-        // Says that there are no more values than dims can have.
+        // For the proof: there are no more values than dims can have.
         let _values = dims.size();
         ContractedRuns {
             contraction,
@@ -62,7 +62,7 @@ impl<'a> ContractedRuns<'a> {
         }
     }
 
-    /// The values of a run from one to before another, combined from the unit.
+    /// Returns the values `[first, last)` of a run, combined from the unit.
     pub(crate) fn combined(
         &self,
         alloc: Global,
@@ -82,8 +82,8 @@ impl<'a> ContractedRuns<'a> {
         Ok(combined_with(reducer, reducer.unit(), &values))
     }
 
-    /// What the runs from one to before another give, each combined from the unit, in order, in
-    /// memory of their own allocator.
+    /// Returns the runs `[first, last)`, each combined from the unit, in order. `target` allocates
+    /// the results.
     pub(crate) fn together<A: Allocator>(
         &self,
         alloc: Global,

@@ -1,5 +1,5 @@
-//! Reductions and contractions whose operands lie in runs: parts of their values are worked out
-//! from parts of runs.
+//! Reductions and contractions whose operands lie in runs, so that a part of a value is computed
+//! from parts of runs. specs/private/InRuns defines the parts.
 
 ghost use Rattle.std.specs.Prelude.{◌≡◌, ◌<◌, ◌≤◌, ◌+◌, ◌-◌, ℕ, length, map, IsTrue, IsOk, IfOk};
 ghost use Rattle.std.specs.List.{range_with_len};
@@ -30,11 +30,12 @@ use tensor_values::Reducer;
 /// A reduction or a contraction by runs of its operands.
 #[derive(Drop)]
 pub(crate) enum InRuns<'a> {
-    /// The values of a run are combined.
+    /// A reduction: the values of a run are combined.
     Combined(Reducer, ValueRuns<'a>),
-    /// The values of a run of a contraction are combined.
+    /// A reduction of a contraction along its first axes: the values of a run of the contraction
+    /// are combined.
     Contracted(Reducer, ContractedRuns<'a>),
-    /// The products of those of two runs are added up.
+    /// A contraction: the products of the values of two runs are added up.
     Multiplied(ValueRuns<'a>, ValueRuns<'a>),
 }
 
@@ -42,7 +43,7 @@ impl<'a> InRuns<'a> {
     ghost use Rattle.tensor_ops.specs.private.InRuns.{run_length, run_places, run_part, run_whole};
     ghost use Rattle.tensor_ops.specs.private.InRuns.{HaveOneLength, GivesParts, GivesReduced};
 
-    /// The runs of a reduction or a contraction.
+    /// Returns a reduction or a contraction by its runs.
     pub(crate) fn of(
         alloc: Global,
         expr: &Expr,
@@ -70,7 +71,7 @@ impl<'a> InRuns<'a> {
         }
     }
 
-    /// The runs of a reduction.
+    /// Returns a reduction by the runs of its operand.
     fn of_reduction(
         alloc: Global,
         reducer: Reducer,
@@ -98,9 +99,9 @@ impl<'a> InRuns<'a> {
         }
     }
 
-    /// The runs of a reduction of a contraction. Where the dropped axes are its first ones, the
-    /// values of a run lie side by side, and are worked out as they are asked for. Else all are
-    /// worked out here.
+    /// Returns a reduction of a contraction by runs. If the dropped axes are the first ones, the
+    /// values of a run lie side by side and are computed as they are asked for. Or else the
+    /// contraction is evaluated here.
     fn of_contraction(
         alloc: Global,
         reducer: Reducer,
@@ -119,12 +120,12 @@ impl<'a> InRuns<'a> {
             return Ok(InRuns::Contracted(reducer, runs));
         }
         let operand = worked_out(alloc, contraction, dims)?;
-        // A list is read in any order, and takes no room.
+        // The operand is a list, which is read in any order, so it takes no room.
         let mut room = 0;
         InRuns::of_values(alloc, reducer, axes, operand, &mut room)
     }
 
-    /// The runs of a reduction of lowered values.
+    /// Returns a reduction of lowered values by their runs.
     fn of_values(
         alloc: Global,
         reducer: Reducer,
@@ -142,7 +143,7 @@ impl<'a> InRuns<'a> {
         Ok(InRuns::Combined(reducer, runs))
     }
 
-    /// How many values a run has.
+    /// Returns the number of values of a run.
     pub(crate) fn length(&self) -> usize
         ensures { result ≡ run_length self.now }
     {
@@ -153,7 +154,7 @@ impl<'a> InRuns<'a> {
         }
     }
 
-    /// What the values of a place's runs give from the first to before the last.
+    /// Returns what the values `[first, last)` of a place's runs contribute.
     pub(crate) fn part(
         &self,
         alloc: Global,
@@ -177,8 +178,8 @@ impl<'a> InRuns<'a> {
         }
     }
 
-    /// What whole runs give, those of the places from one to before another, in order, in memory
-    /// of their own allocator.
+    /// Returns the values of the places `[first, last)`, each with its whole runs, in order.
+    /// `target` allocates them.
     pub(crate) fn wholes<A: Allocator>(
         &self,
         alloc: Global,
@@ -203,7 +204,7 @@ impl<'a> InRuns<'a> {
         }
     }
 
-    /// The same, place by place.
+    /// Returns the values of the places `[first, last)`, in order, place by place.
     fn one_by_one<A: Allocator>(
         &self,
         alloc: Global,

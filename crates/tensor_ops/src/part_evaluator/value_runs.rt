@@ -1,5 +1,6 @@
-//! Values that lie in runs: what is combined into one value of a result lies side by side. They are
-//! worked out as they are asked for, a piece at a time.
+//! Values of a lowered expression in runs: the values that are combined into one value of a result
+//! lie side by side. They are computed as they are asked for, a piece at a time.
+//! specs/private/ValueRuns defines them.
 
 ghost use Rattle.std.specs.Prelude.{◌≡◌, ◌↔◌, ◌<◌, ◌≤◌, ◌+◌, ◌-◌, ◌*◌, ◌*ℤ◌, ◌++◌, length};
 ghost use Rattle.std.specs.Prelude.{map, true, Ok, IsTrue, IfOk, OnOk, vec_len, vec_capacity};
@@ -31,14 +32,14 @@ use tensor_terms::{Movement, axes_first, dims_at, other_dims};
 use tensor_values::Reducer;
 use tensor_views::Places;
 
-/// Runs of values, one after the other. Nothing of them is held but what the lowered expression
-/// reads.
+/// A lowered expression whose values lie in runs, one after the other. None of the values is
+/// stored.
 #[derive(Drop)]
 pub(crate) struct ValueRuns<'a> {
     lowered: Lowered<'a>,
-    /// How many values a run has.
+    /// The number of values of a run.
     pub(crate) length: usize,
-    /// How many runs there are.
+    /// The number of runs.
     pub(crate) count: usize,
     ghost sound: { IsSound lowered } by { IsSound-prop lowered },
     ghost whole: { count_of lowered ≡ length * count },
@@ -48,7 +49,8 @@ pub(crate) struct ValueRuns<'a> {
 impl<'a> ValueRuns<'a> {
     ghost use Rattle.tensor_ops.specs.private.ValueRuns.{run_value, run_combined};
 
-    /// The values of an operand along some of its axes: a run for each index list of the others.
+    /// Returns the values of an operand along some of its axes: a run for each index list of the
+    /// other axes.
     pub(crate) fn along(
         alloc: Global,
         axes: &[u64],
@@ -65,7 +67,7 @@ impl<'a> ValueRuns<'a> {
         let length = dims_at(axes, &operand.dims).size() as usize;
         let count = other_dims(axes, &operand.dims).size() as usize;
         let fronted = with_axes_first(alloc, axes, operand, room)?;
-        // Says that there are no more values than dims can have.
+        // For the proof: there are no more values than dims can have.
         let _values = fronted.dims.size();
         let lowered = sunk_over(alloc, fronted.lowered, &fronted.dims)?;
         Ok(ValueRuns {
@@ -75,7 +77,7 @@ impl<'a> ValueRuns<'a> {
         })
     }
 
-    /// The values of a run from one to before another.
+    /// Returns the values `[first, last)` of a run.
     fn piece(
         &self,
         alloc: Global,
@@ -97,7 +99,7 @@ impl<'a> ValueRuns<'a> {
         )
     }
 
-    /// The values of a run from one to before another, combined from the unit.
+    /// Returns the values `[first, last)` of a run, combined from the unit.
     pub(crate) fn combined(
         &self,
         alloc: Global,
@@ -123,8 +125,8 @@ impl<'a> ValueRuns<'a> {
         Ok(value)
     }
 
-    /// What the runs from one to before another give, each combined from the unit, in order, in
-    /// memory of their own allocator. As many are worked out together as a piece has room for.
+    /// Returns the runs `[first, last)`, each combined from the unit, in order. `target` allocates
+    /// the results. As many runs are computed together as a piece has room for.
     pub(crate) fn together<A: Allocator>(
         &self,
         alloc: Global,
@@ -149,7 +151,7 @@ impl<'a> ValueRuns<'a> {
         Ok(values)
     }
 
-    /// Appends what the runs from one to before another give.
+    /// Appends the runs `[first, last)`, each combined from the unit.
     fn add_runs<A: Allocator>(
         &self,
         alloc: Global,
@@ -172,8 +174,8 @@ impl<'a> ValueRuns<'a> {
         Ok(())
     }
 
-    /// The sum, modulo 2^64, of the products of the values of a run from one to before another and
-    /// those of a run of other values.
+    /// Returns the sum, modulo 2^64, of the products of the values `[first, last)` of a run and of
+    /// a run of other values.
     pub(crate) fn multiplied(
         &self,
         alloc: Global,
@@ -204,7 +206,7 @@ impl<'a> ValueRuns<'a> {
     }
 }
 
-/// An operand with some of its axes first. Where they are first already it stays as it is.
+/// Returns an operand with the given axes first. If they are first already it stays as it is.
 fn with_axes_first<'a>(
     alloc: Global,
     axes: &[u64],
@@ -228,7 +230,7 @@ fn with_axes_first<'a>(
     lower_movement(alloc, Movement::Shuffle(order.as_slice()), operand, room)
 }
 
-/// Whether these axes, in this order, are the first ones of so many.
+/// Returns whether the given axes, in this order, are the first ones.
 pub(crate) fn come_first(axes: &[u64], rank: usize) -> bool
     requires few { rank ≤ highest_rank }
     requires axes { are_axes rank axes.now ≡ true }
@@ -237,7 +239,7 @@ pub(crate) fn come_first(axes: &[u64], rank: usize) -> bool
     is_in_order(axes_first(axes, rank).as_slice())
 }
 
-/// Whether these are the numbers from 0 on.
+/// Returns whether the numbers are 0, 1, 2 and so on.
 fn is_in_order(numbers: &[u64]) -> bool
     ensures { IsTrue result ↔ (numbers.now ≡ range_with_len 0 (length numbers.now)) }
 {

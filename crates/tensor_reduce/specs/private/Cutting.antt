@@ -9,7 +9,7 @@ use Rattle.tensor_reduce.specs.Plan.{term_of_step, dims_of_step, terms_in, dims_
 use Rattle.tensor_reduce.specs.Steps.{operand_nodes, step_nodes, cut, steps_of, number_of}
 use Rattle.tensor_reduce.specs.declared.step.Step.{Step}
 
--- steps that have grown by those of an operand, and what is left of it
+-- the steps of an operand were appended to old, which gave new, and left is the rest of the operand
 pub record IsCut (inputs : List Contents) (whole : Bool) (t : Term) (old new : List Step)
     (left : Step) : Type 0 where
   pub terms : terms_in new ≡ terms_in old ++ (cut (length inputs + length old) whole t).steps
@@ -17,7 +17,7 @@ pub record IsCut (inputs : List Contents) (whole : Bool) (t : Term) (old new : L
   pub term : term_of_step left ≡ (cut (length inputs + length old) whole t).left
   pub dims : dims_of widest t inputs ≡ Ok (dims_of_step left)
 
--- steps to which a node was added where it is one, and what is left of it
+-- a node was appended to old if it is a step, which gave new, and rest names it
 pub record IsSplitOff (inputs : List Contents) (is_step : Bool) (node : Step)
     (old new : List Step) (rest : Step) : Type 0 where
   pub steps : new ≡ (if is_step then old ++ node ∷ [] else old)

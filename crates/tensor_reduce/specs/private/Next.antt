@@ -1,4 +1,4 @@
--- What is worked out next of the steps left.
+-- The step that is evaluated next, of the steps left.
 use Rattle.std.specs.Prelude.{◌≡◌, ℕ, ◌+◌, ◌<◌, ◌^◌, List, ◌∷◌, drop, false}
 use Rattle.tensor_ops.specs.Term.{Term}
 use Rattle.tensor_reduce.specs.private.Fusing.{fused_with}
@@ -10,18 +10,19 @@ use Rattle.tensor_reduce.specs.declared.schedule.next.Next.{Next}
 use Rattle.tensor_reduce.specs.declared.schedule.next.Next.TheVariants.{Alone, Fused, BothFused}
 use Rattle.tensor_reduce.specs.declared.step.Step.{Step}
 
--- how many steps are fused into it, and the last number by which it reads one
+-- the number of steps that are fused into it
 abbrev pub fused_in : Next → ℕ
 fused_in (Alone step schedule) = 0
 fused_in (Fused n operand reader schedule) = 1
 fused_in (BothFused n first second reader schedule) = 2
 
+-- the last number by which it reads a step that is fused into it
 abbrev pub last_number : Next → ℕ
 last_number (Alone step schedule) = 0
 last_number (Fused n operand reader schedule) = n
 last_number (BothFused n first second reader schedule) = n + 1
 
--- the term that is worked out, its dims and its schedule
+-- the term that is evaluated
 abbrev pub next_term : Next → Term
 next_term (Alone step schedule) = term_of_step step.now
 next_term (Fused n operand reader schedule) =
@@ -30,11 +31,13 @@ next_term (BothFused n first second reader schedule) =
     fused_with n (term_of_step first.now)
     (fused_with (n + 1) (term_of_step second.now) (term_of_step reader.now))
 
+-- the dims of the term that is evaluated
 abbrev pub next_dims : Next → List ℕ
 next_dims (Alone step schedule) = dims_of_step step.now
 next_dims (Fused n operand reader schedule) = dims_of_step reader.now
 next_dims (BothFused n first second reader schedule) = dims_of_step reader.now
 
+-- the schedule of the term that is evaluated
 abbrev pub next_schedule : Next → Schedule
 next_schedule (Alone step schedule) = schedule
 next_schedule (Fused n operand reader schedule) = schedule
@@ -45,7 +48,7 @@ pub record IsAlone (left : List Step) (step : Step) (schedule : Schedule) : Type
   pub steps : left ≡ step ∷ drop 1 left
   pub fits : IsScheduleFor schedule (term_of_step step)
 
--- the second, with the first fused into it, whose tensor no step behind them reads
+-- the second of the steps left, with the first fused into it, whose tensor no later step reads
 pub record IsFused (left : List Step) (n : ℕ) (operand reader : Step) (schedule : Schedule)
     : Type 0 where
   pub steps : left ≡ operand ∷ reader ∷ drop 2 left
@@ -53,7 +56,7 @@ pub record IsFused (left : List Step) (n : ℕ) (operand reader : Step) (schedul
   pub unread : are_reading n (drop 2 left) ≡ false
   pub small : n < 2 ^ 32
 
--- the third, with the first two fused into it, whose tensors no other step reads
+-- the third of the steps left, with the first two fused into it, whose tensors no other step reads
 pub record AreFused (left : List Step) (n : ℕ) (first second reader : Step)
     (schedule : Schedule) : Type 0 where
   pub steps : left ≡ first ∷ second ∷ reader ∷ drop 3 left
@@ -63,7 +66,7 @@ pub record AreFused (left : List Step) (n : ℕ) (first second reader : Step)
   pub unread_too : are_reading (n + 1) (drop 3 left) ≡ false
   pub small : n + 1 < 2 ^ 32
 
--- one of these, where so many tensors stand before the steps left
+-- one of these three, if count tensors stand before the steps left
 abbrev pub IsNextOf : List Step → ℕ → Next → Type 0
 IsNextOf left count (Alone step schedule) = IsAlone left step.now schedule
 IsNextOf left count (Fused n operand reader schedule) =

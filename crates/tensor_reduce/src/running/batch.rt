@@ -1,11 +1,12 @@
-//! The kernel of a batch of another's places.
+//! The kernel of a range of another kernel's places. `workers` cuts large tensors into such
+//! batches.
 
 ghost use Rattle.std.specs.Prelude.{◌≡◌, ◌≤◌, ◌-◌, ◌+◌};
 
 use parallel_for::Kernel;
 use std::alloc::{AllocError, Allocator};
 
-/// Works out the items of a kernel at the places from the first to before the last.
+/// Computes the items of a kernel at the places `[first, last)`.
 #[derive(Drop)]
 pub(crate) struct Batch<'a, K: Kernel> {
     pub(crate) kernel: &'a K,
@@ -15,7 +16,7 @@ pub(crate) struct Batch<'a, K: Kernel> {
     ghost inside: { last ≤ K.size kernel.now },
 }
 
-// It has a place for each from the first on, and there the kernel's item.
+// The items are the kernel's, from place `first` on.
 impl<K: Kernel> Kernel for Batch<'_, K> {
     type Item = K::Item;
 

@@ -1,4 +1,4 @@
-//! Values that are combined of what their shards give.
+//! Combines what shards contribute into values.
 
 ghost use Rattle.std.specs.Prelude.{◌≡◌, ◌<◌, ◌*◌, length, map, IfOk};
 ghost use Rattle.std.specs.List.{range_with_len};
@@ -9,7 +9,8 @@ ghost use Rattle.tensor_reduce.specs.private.Combined.{combined_by, reducer_of};
 use std::alloc::{AllocError, Global};
 use tensor_ops::{Expr, Node, Reducer, Unary};
 
-/// What combines the parts of a value: a reduction's reducer, and else sums.
+/// Returns the reducer that combines the parts of a value: a reduction's own, or sums for a
+/// contraction.
 pub(crate) fn reducer_of(expr: &Expr) -> Reducer
     ensures { result ≡ reducer_of (term_of expr.now) }
 {
@@ -19,7 +20,7 @@ pub(crate) fn reducer_of(expr: &Expr) -> Reducer
     }
 }
 
-/// So many values, each of so many parts that stand one after the other.
+/// Returns `values` values, each combined of `count` parts that stand one after the other.
 pub(crate) fn combined_values(
     alloc: Global,
     reducer: Reducer,
@@ -39,7 +40,7 @@ pub(crate) fn combined_values(
     Ok(combined)
 }
 
-/// Parts combined in order, from the unit.
+/// Returns the combination of parts in order, from the unit.
 fn combination(reducer: Reducer, parts: &[i64]) -> i64
     ensures { result ≡ combination reducer parts.now }
 {

@@ -1,5 +1,5 @@
-//! Freeing tensors that no step left reads: something empty takes their place, so that the others
-//! keep their numbers.
+//! Frees tensors that no step left reads. An empty tensor takes the place of each, so that the
+//! others keep their numbers. What must still be held is defined in specs/private/Held.
 
 ghost use Rattle.std.specs.Prelude.{◌≡◌, ◌+◌, ◌<◌, ◌≤◌, ◌++◌, List, length, slice_set};
 ghost use Rattle.std.specs.Prelude.{vec_capacity};
@@ -12,7 +12,7 @@ use crate::step::Step;
 use std::alloc::Global;
 use tensor_ops::{Dims, Inputs, Tensor};
 
-/// Puts something empty in the place of so many tensors, which nobody has worked out or reads.
+/// Appends `count` empty tensors, for steps that were fused and so have no tensor.
 pub(crate) fn push_freed(alloc: Global, tensors: &mut Vec<Tensor<'static>>, count: usize)
     requires { length tensors.old.items + count ≤ vec_capacity tensors.old }
     ensures more { HasMore count tensors.old.items tensors.new.items }
@@ -23,8 +23,9 @@ pub(crate) fn push_freed(alloc: Global, tensors: &mut Vec<Tensor<'static>>, coun
     }
 }
 
-/// Frees the tensors that none of the steps left reads, from the one before the last back to
-/// the nearest that is read. Those of a tree's operands are never behind it.
+/// Frees the tensors that no step left reads, from the last but one back to the nearest one that is
+/// read. Earlier ones needn't be looked at: an expression is a tree, so its steps are read in
+/// reverse order.
 pub(crate) fn free_unread(
     alloc: Global,
     left: &[Step],
@@ -50,7 +51,7 @@ pub(crate) fn free_unread(
     }
 }
 
-/// Puts a tensor in the place of another one, which is freed.
+/// Replaces a tensor by another one, and frees it.
 fn put(tensors: &mut Vec<Tensor<'static>>, place: usize, tensor: Tensor<'static>)
     requires { place < length tensors.old.items }
     ensures items { tensors.new.items ≡ slice_set tensors.old.items place tensor.entry }
@@ -59,7 +60,7 @@ fn put(tensors: &mut Vec<Tensor<'static>>, place: usize, tensor: Tensor<'static>
     tensors[place] = tensor;
 }
 
-/// A tensor that holds no memory.
+/// Returns a tensor that holds no memory.
 fn freed(alloc: Global) -> Tensor<'static> {
     let Ok(dims) = Dims::new(&[0]) else {
         unreachable!()

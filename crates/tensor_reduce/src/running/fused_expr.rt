@@ -1,4 +1,5 @@
-//! Fused expressions: operations that read an expression in the place of a tensor.
+//! Fused expressions: an operation reads an expression instead of a tensor. What they mean is
+//! defined in specs/private/Fusing.
 
 ghost use Rattle.std.specs.Prelude.{◌≡◌, ◌+◌, ◌<◌, ◌^◌, IfOk};
 ghost use Rattle.tensor_ops.specs.Tree.{term_of};
@@ -7,7 +8,7 @@ ghost use Rattle.tensor_reduce.specs.private.Fusing.{instead, fused_with};
 use std::alloc::{AllocError, Global};
 use tensor_ops::{Expr, Node};
 
-/// An operation, with an expression for each operand of it that is the tensor of a number.
+/// Returns an operation in which `expr` replaces each operand that is the tensor of a number.
 pub(crate) fn fused_with(
     alloc: Global,
     reader: &Expr,
@@ -27,8 +28,8 @@ pub(crate) fn fused_with(
     }
 }
 
-/// An operation on two operands, with one expression for each that is the tensor of a number, and
-/// another one for each that is the tensor of the next number.
+/// Returns an operation in which `first` replaces each operand that is the tensor of a number, and
+/// `second` each operand that is the tensor of the next number.
 pub(crate) fn fused_with_both(
     alloc: Global,
     reader: &Expr,
@@ -44,7 +45,7 @@ pub(crate) fn fused_with_both(
     fused_with(alloc, &half, number, first)
 }
 
-/// A copy of an operand, or of an expression where the operand is the tensor of a number.
+/// Returns a copy of an operand, or of `expr` if the operand is the tensor of a number.
 fn instead(alloc: Global, operand: &Expr, number: u32, expr: &Expr) -> Result<Expr, AllocError>
     ensures { IfOk result (λ e.
         term_of e ≡ instead number (term_of expr.now) (term_of operand.now)) }
@@ -60,7 +61,7 @@ fn instead(alloc: Global, operand: &Expr, number: u32, expr: &Expr) -> Result<Ex
     }
 }
 
-/// A copy of an expression.
+/// Returns a copy of an expression.
 pub(crate) fn copied(alloc: Global, expr: &Expr) -> Result<Expr, AllocError>
     ensures { IfOk result (λ copy. term_of copy ≡ term_of expr.now) }
 {

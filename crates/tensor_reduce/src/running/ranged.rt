@@ -1,4 +1,4 @@
-//! Steps whose values are worked out by ranges of their places.
+//! Steps that are evaluated by ranges of their places.
 
 ghost use Rattle.std.specs.Prelude.{◌≡◌, ◌<◌, ◌++◌, length, IfOk, IfErr, IsTrue, Ok};
 ghost use Rattle.tensor_ops.specs.Legal.{widest};
@@ -14,7 +14,7 @@ use std::sync::Wait;
 use std::thread::Threads;
 use tensor_ops::{Dims, Expr, Inputs, Tensor};
 
-/// The tensor of an expression of these dims, whose values are worked out so many places at a time.
+/// Returns the tensor of an expression with the given dims, evaluated `leaf` places at a time.
 pub(crate) fn of_ranges<RT: Threads + Wait + Sync>(
     workers: &Workers<'_, RT>,
     leaf: u64,

@@ -1,4 +1,5 @@
-//! Tensors of steps by their schedules, with what is fused into them.
+//! The tensor of a stage, by its schedule, with what is fused into it. Here the expression of a
+//! stage is built, and passed to `ranged` or `sharded`.
 
 ghost use Rattle.std.specs.Prelude.{◌≡◌, ◌<◌, ◌^◌, ◌++◌, length, IfOk, IfErr, IsTrue, Ok};
 ghost use Rattle.tensor_ops.specs.Legal.{widest};
@@ -23,7 +24,7 @@ use std::sync::Wait;
 use std::thread::Threads;
 use tensor_ops::{Dims, Expr, Inputs, Tensor};
 
-/// The tensor of a stage, over inputs and the tensors of the steps before it.
+/// Returns the tensor of a stage, over inputs and the tensors of earlier steps.
 pub(crate) fn of_stage<RT: Threads + Wait + Sync>(
     workers: &Workers<'_, RT>,
     stage: Stage<'_>,
@@ -57,7 +58,7 @@ pub(crate) fn of_stage<RT: Threads + Wait + Sync>(
     }
 }
 
-/// The expression of what is worked out next, with what is fused into it.
+/// Returns the expression of the next step, with what is fused into it.
 fn expr_of(alloc: Global, next: &Next<'_>) -> Result<Expr, AllocError>
     requires { last_number next.now < 2 ^ 32 }
     ensures { IfOk result (λ e. term_of e ≡ next_term next.now) }
@@ -73,7 +74,7 @@ fn expr_of(alloc: Global, next: &Next<'_>) -> Result<Expr, AllocError>
     }
 }
 
-/// The tensor of an expression of these dims, worked out by a schedule.
+/// Returns the tensor of an expression with the given dims, evaluated by a schedule.
 fn of_schedule<RT: Threads + Wait + Sync>(
     workers: &Workers<'_, RT>,
     schedule: Schedule,

@@ -1,4 +1,4 @@
-//! The kernel of a step that is worked out in shards.
+//! The kernel of a step that is evaluated in shards. specs/private/Combined defines its items.
 
 ghost use Rattle.std.specs.Prelude.{◌≡◌, ◌<◌, ◌≤◌, ◌-◌, map, IfOk};
 ghost use Rattle.std.specs.List.{range_with_len};
@@ -11,8 +11,8 @@ use parallel_for::Kernel;
 use std::alloc::{AllocError, Allocator};
 use tensor_ops::PartEvaluator;
 
-/// Works out what shards give of values, by ranges of places: first all shards of the first value,
-/// then those of the next.
+/// Computes what shards contribute to values, by ranges of places: first all shards of the first
+/// value, then all shards of the next.
 #[derive(Drop)]
 pub(crate) struct ShardKernel<'a> {
     pub(crate) parts: PartEvaluator<'a>,
@@ -23,7 +23,7 @@ pub(crate) struct ShardKernel<'a> {
 impl<'a> ShardKernel<'a> {
     ghost use Rattle.tensor_reduce.specs.private.Combined.{shard_places, shard_at_place};
 
-    /// What the shard at a place gives.
+    /// Returns what the shard at a place contributes.
     fn shard(&self, place: u64) -> Result<i64, AllocError>
         requires { place < shard_places self.now }
         ensures { IfOk result (λ v. v ≡ shard_at_place self.now place) }
@@ -33,7 +33,7 @@ impl<'a> ShardKernel<'a> {
         self.parts.part(place / count, first, last)
     }
 
-    /// What the shards from one to before another give, one after the other.
+    /// Returns what each of the shards `[first, last)` contributes.
     fn each<A: Allocator>(&self, alloc: A, first: u64, last: u64) -> Result<Vec<i64, A>, AllocError>
         requires order { first ≤ last }
         requires within { last ≤ shard_places self.now }
@@ -48,7 +48,7 @@ impl<'a> ShardKernel<'a> {
     }
 }
 
-// It has a place for each shard of each value, and there what the shard gives of the value.
+// The items are what each shard of each value contributes to the value.
 impl<'a> Kernel for ShardKernel<'a> {
     ghost use Rattle.tensor_reduce.specs.private.Combined.{shard_places, shard_at_place};
 

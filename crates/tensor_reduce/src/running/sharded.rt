@@ -1,4 +1,4 @@
-//! Steps whose values are worked out in shards.
+//! Steps that are evaluated in shards. `laws` says why this gives their tensors.
 
 ghost use Rattle.std.specs.Prelude.{◌≡◌, ◌<◌, ◌≤◌, ◌++◌, length, map, IfOk, IfErr, IsTrue, Ok};
 ghost use Rattle.std.specs.List.{range_with_len};
@@ -20,8 +20,8 @@ use std::sync::Wait;
 use std::thread::Threads;
 use tensor_ops::{Dims, Expr, Inputs, MAX_ELEMENTS, PartEvaluator, Tensor};
 
-/// The tensor of a reduction or a contraction of these dims, whose values are worked out in shards
-/// and combined.
+/// Returns the tensor of a reduction or a contraction with the given dims. Its values are evaluated
+/// in shards and combined.
 pub(crate) fn of_shards<RT: Threads + Wait + Sync>(
     workers: &Workers<'_, RT>,
     sharding: Sharding,
@@ -60,7 +60,7 @@ pub(crate) fn of_shards<RT: Threads + Wait + Sync>(
     Ok(Tensor::new(dims.copied(), combined))
 }
 
-/// What so many shards give.
+/// Returns what each shard of each value contributes.
 fn found_of<RT: Threads + Wait + Sync>(
     workers: &Workers<'_, RT>,
     kernel: ShardKernel<'_>,

@@ -1,4 +1,4 @@
-//! The kernel of a step.
+//! `StepKernel`: the kernel of a step, for `parallel_for`. specs/Kernels defines its items.
 
 ghost use Rattle.std.specs.Prelude.{◌≡◌, ◌++◌, length, IfOk, IsOk, IsTrue};
 ghost use Rattle.tensor_ops.specs.Legal.{widest};
@@ -11,7 +11,7 @@ use parallel_for::Kernel;
 use std::alloc::{AllocError, Allocator, Global};
 use tensor_ops::{Expr, Inputs, Tensor, TensorEvaluator};
 
-/// Works out the values of a step by ranges of places. It is made once for a step: all workers read
+/// Computes the values of a step by ranges of places. It is made once for a step. All workers read
 /// the inputs and the tensors of earlier steps through it, and none of these is copied.
 #[derive(Drop)]
 pub struct StepKernel<'a> {
@@ -22,7 +22,7 @@ impl<'a> StepKernel<'a> {
     ghost use Rattle.tensor_reduce.specs.Kernels.{kernel_term, kernel_tensors};
     ghost use Rattle.tensor_reduce.specs.Plan.{IsReady, term_of_step};
 
-    /// The kernel of a step over inputs and the tensors of the steps before it.
+    /// Returns the kernel of a step over inputs and the tensors of earlier steps.
     pub fn of(
         alloc: Global,
         step: &'a Step,
@@ -37,7 +37,7 @@ impl<'a> StepKernel<'a> {
         StepKernel::over(alloc, step.expr(), inputs, earlier)
     }
 
-    /// The kernel of an expression over these.
+    /// Returns the kernel of an expression over inputs and the tensors of earlier steps.
     pub(crate) fn over(
         alloc: Global,
         expr: &'a Expr,
@@ -57,7 +57,7 @@ impl<'a> StepKernel<'a> {
     }
 }
 
-// It has a place for each of the step's, and there the value of the step's expression.
+// The items are the values of the step's expression, one for each place.
 impl<'a> Kernel for StepKernel<'a> {
     ghost use Rattle.tensor_ops.specs.Value.{value_of_place};
     ghost use Rattle.tensor_reduce.specs.Kernels.{kernel_term, kernel_tensors, kernel_size};

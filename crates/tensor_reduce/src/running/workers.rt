@@ -1,9 +1,11 @@
-//! The workers that the items of a step are worked out by.
+//! The workers of a step: how many there are, and how its places are cut into leaves and batches.
+//! Here `parallel_for` is called.
 
-ghost use Rattle.std.specs.Prelude.{◌≡◌, ◌<◌, ◌≤◌, IfOk, IfErr};
+ghost use Rattle.std.specs.Prelude.{◌≡◌, ◌<◌, ◌≤◌, ◌*◌, ◌-◌, ◌^◌, min, IfOk, IfErr};
 ghost use Rattle.parallel_for.specs.Faults.{IsBlockLength};
 ghost use Rattle.parallel_for.specs.Items.{AreItems};
 ghost use Rattle.parallel_for.specs.Setup.{IsPoolSize, AreNoPartitions};
+ghost use Rattle.tensor_reduce.specs.private.Batches.{most_items};
 
 use crate::running::batch::Batch;
 use crate::schedule::grain::Grain;
@@ -13,23 +15,23 @@ use std::sync::Wait;
 use std::thread::Threads;
 use tensor_ops::TEXT_ELEMENTS;
 
-/// How many leaves a step has at most, so that those of a large tensor don't take more memory than
-/// its values: as many as a text's tensor has values.
+/// The most leaves of a step, as many as a text's tensor has values. So the leaves of a large
+/// tensor take no more memory than its values.
 const MOST_LEAVES: u64 = TEXT_ELEMENTS;
 
-/// How many items of a large tensor a batch has for each worker, where a leaf has no more. Until they
-/// are in the list of all they are in those of leaves and of the batch: a megabyte of values a worker.
+/// How many items of a large tensor a batch has for each worker, unless a leaf has more. Meanwhile
+/// the items are held in lists of the leaves and of the batch: 512 KiB of values a worker in each.
 const HELD: u64 = 65_536;
 
-/// What a plan is worked out by: the workers of a pool that the setup describes, opened for each
-/// step or batch of one, and how many places they take at a time.
+/// The workers of a pool that `setup` describes, which is opened for each step or batch, and the
+/// number of places that they take at a time.
 #[derive(Drop)]
 pub(crate) struct Workers<'a, RT> {
     pub(crate) rt: &'a RT,
     pub(crate) alloc: Global,
     pub(crate) setup: &'a Setup,
     pub(crate) block: u64,
-    /// How many of them take part in a step.
+    /// How many of the workers take part in a step.
     pub(crate) count: u32,
     ghost some: { 0 < block },
     ghost pool: { IsPoolSize setup.now.workers },
@@ -37,17 +39,22 @@ pub(crate) struct Workers<'a, RT> {
 }
 
 impl<'a, RT> Workers<'a, RT> {
-    /// What leaves are sized for.
-    pub(crate) fn grain(&self) -> Grain {
+    /// Returns what leaves are sized for.
+    pub(crate) fn grain(&self) -> Grain
+        ensures workers { result.workers ≡ self.now.setup.now.workers }
+        ensures block { result.block ≡ self.now.block }
+    {
         Grain {
             workers: self.setup.workers,
             block: self.block,
         }
     }
 
-    /// So many of them, or all where there are no more.
+    /// Returns these workers with the given number of them taking part.
     pub(crate) fn few(&self, count: u32) -> Workers<'a, RT>
-        ensures { result.count ≡ count }
+        ensures count { result.count ≡ count }
+        ensures setup { result.setup.now ≡ self.now.setup.now }
+        ensures block { result.block ≡ self.now.block }
     {
         Workers {
             rt: self.rt,
@@ -58,10 +65,12 @@ impl<'a, RT> Workers<'a, RT> {
         }
     }
 
-    /// How many places a batch has at most: whole leaves, one for each worker at least.
+    /// Returns how many places a batch has at most: whole leaves, at least one for each worker.
     fn batch_size(&self, leaf: u64) -> u64
         requires { 0 < leaf }
-        ensures { 0 < result }
+        ensures some { 0 < result }
+        ensures least { min (self.now.count * leaf) (2 ^ 64 - 1) ≤ result }
+        ensures most { result ≤ most_items self.now.count leaf }
     {
         let workers = u64::from(self.count).max(1);
         let leaves = (workers * HELD / leaf).max(workers);
@@ -70,10 +79,11 @@ impl<'a, RT> Workers<'a, RT> {
 }
 
 impl<RT: Threads + Wait + Sync> Workers<'_, RT> {
-    /// The items of a kernel at the places below `n`, so many at a time on the workers that take
-    /// part, or more where there would be too many leaves. Where one takes part, it is the calling
-    /// thread, which works all of them out in one go. More items than a text's tensor has values are
-    /// worked out batch by batch, so that lists of leaves take little memory beside them.
+    /// Returns the items of a kernel at the places below `n`, in order. The workers that take part
+    /// compute `leaf` items at a time, or more if there would be too many leaves. If one takes
+    /// part, the calling thread computes all items at once. More items than a text's tensor has
+    /// values are computed batch by batch, so that the lists of leaves take little memory beside
+    /// the result.
     pub(crate) fn items<K>(&self, kernel: &K, n: u64, leaf: u64) -> Result<Vec<K::Item>, ForFault>
     where
         K: Kernel + Sync,
@@ -94,7 +104,7 @@ impl<RT: Threads + Wait + Sync> Workers<'_, RT> {
         self.batched(kernel, n, leaf)
     }
 
-    /// The same, on one pool.
+    /// Returns the items of a kernel at the places below `n`, computed on one pool.
     fn pooled<K>(&self, kernel: &K, n: u64, leaf: u64) -> Result<Vec<K::Item>, ForFault>
     where
         K: Kernel + Sync,
@@ -116,7 +126,8 @@ impl<RT: Threads + Wait + Sync> Workers<'_, RT> {
         parallel_for(self.rt, self.alloc, &fewer, kernel, n, leaf)
     }
 
-    /// The same batch by batch, each on a pool of its own.
+    /// Returns the items of a kernel at the places below `n`, computed batch by batch, each on a
+    /// pool of its own.
     fn batched<K>(&self, kernel: &K, n: u64, leaf: u64) -> Result<Vec<K::Item>, ForFault>
     where
         K: Kernel + Sync,
@@ -145,7 +156,7 @@ impl<RT: Threads + Wait + Sync> Workers<'_, RT> {
     }
 }
 
-/// So many places a leaf, or more where there would be too many leaves.
+/// Returns how many places a leaf has: `leaf`, or more if there would be too many leaves.
 fn long_leaf(n: u64, leaf: u64) -> u64
     requires { 0 < leaf }
     ensures { IsBlockLength n result }

@@ -1,5 +1,6 @@
-//! What steps cost: about how long one thread takes for their values, in nanoseconds, by a table of
-//! what a thousand take, as an idle machine's thread works them out in cache.
+//! The cost of a step: about how long one thread takes for its values, in nanoseconds. A table has
+//! the times for a thousand values in the cache, on an idle machine. It changes times alone, and no
+//! value.
 
 use crate::schedule::places_read::dims_of;
 use crate::schedule::rows::row_width;
@@ -8,25 +9,25 @@ use tensor_ops::{
     Binary, BinaryScalar, Dims, Expr, Inputs, Movement, Node, Reducer, Tensor, Unary, UnaryScalar,
 };
 
-/// A thousand sums, differences, values without their sign or of bits put together.
+/// A thousand sums, differences, negations, absolute values or bitwise operations.
 const SUMS: u64 = 200;
 
 /// A thousand products, comparisons, shifts or choices.
 const PRODUCTS: u64 = 400;
 
-/// A thousand quotients, or what these leave.
+/// A thousand quotients or remainders.
 const QUOTIENTS: u64 = 3_000;
 
-/// A thousand values of a tensor that are read in rows.
+/// A thousand values of a tensor, read in rows.
 const IN_ROWS: u64 = 250;
 
-/// A thousand that are read in any other order.
+/// A thousand values of a tensor, read in another order.
 const SCATTERED: u64 = 300;
 
-/// A thousand values that are added up.
+/// A thousand values, added up.
 const ADDED_UP: u64 = 400;
 
-/// A thousand that are combined in another way.
+/// A thousand values, combined by another reducer.
 const COMBINED: u64 = 800;
 
 /// A thousand products of a contraction or a convolution, added up.
@@ -35,14 +36,15 @@ const MULTIPLIED: u64 = 200;
 /// A thousand places of a contraction's operands, read and packed.
 const PACKED: u64 = 350;
 
-/// A thousand values of a convolution, beside their products.
+/// A thousand values of a convolution, besides their products.
 const SLID: u64 = 2_000;
 
-/// Up to how many values an operand that is repeated is worked out once, before all leaves.
+/// The most values of an operand of a broadcast that are computed once, before all leaves, as
+/// tensor_ops does.
 const KEPT: u64 = 32_768;
 
-/// How long one thread works out a step, over inputs and the tensors of the steps before it and of
-/// those that are left. Its values are written by whoever takes them.
+/// Returns the time of one thread to compute a step's values, over inputs and the tensors of
+/// earlier steps and of the steps left. Writing the values isn't counted.
 pub(crate) fn cost_of(step: &Step, inputs: &Inputs, earlier: &[Tensor], left: &[Step]) -> u64 {
     let values = step.dims().size();
     let thousandfold = match step.expr().node() {
@@ -76,7 +78,7 @@ pub(crate) fn cost_of(step: &Step, inputs: &Inputs, earlier: &[Tensor], left: &[
     thousandfold / 1000
 }
 
-/// How many values an operand has that is a tensor of a known size, and else none.
+/// Returns the number of values of an operand that is a tensor of known size, or else 0.
 fn size_of(operand: &Expr, inputs: &Inputs, earlier: &[Tensor], left: &[Step]) -> u64 {
     match known_dims(operand, inputs, earlier, left) {
         Some(dims) => dims.size(),
@@ -84,8 +86,8 @@ fn size_of(operand: &Expr, inputs: &Inputs, earlier: &[Tensor], left: &[Step]) -
     }
 }
 
-/// The dims of an operand that is a tensor: an input, or that of a step, whether it is worked out
-/// or left.
+/// Returns the dims of an operand that is a tensor: an input, or the tensor of an earlier step or
+/// of one of the steps left.
 fn known_dims<'a>(
     operand: &Expr,
     inputs: &'a Inputs,
@@ -103,7 +105,7 @@ fn known_dims<'a>(
     Some(step.dims())
 }
 
-/// What a thousand values of an expression take, of which so many are asked for.
+/// Returns the time for a thousand values of an expression, of which `places` values are needed.
 fn thousand_of(expr: &Expr, places: u64) -> u64 {
     match expr.node() {
         Node::Input(_) | Node::Unary(Unary::Constant(_), _) => 0,
@@ -124,7 +126,8 @@ fn thousand_of(expr: &Expr, places: u64) -> u64 {
     }
 }
 
-/// What a thousand values of an operation on one operand take beside it.
+/// Returns the time for a thousand values of an operation on one operand, without the operand's
+/// time.
 fn one_operand(operation: Unary<'_>) -> u64 {
     match operation {
         Unary::Each(UnaryScalar::Neg | UnaryScalar::Abs | UnaryScalar::BitNot) => SUMS,
@@ -137,7 +140,8 @@ fn one_operand(operation: Unary<'_>) -> u64 {
     }
 }
 
-/// What a thousand values of an operation on two operands take beside them.
+/// Returns the time for a thousand values of an operation on two operands, without the operands'
+/// time.
 fn two_operands(operation: Binary<'_>) -> u64 {
     match operation {
         Binary::Pairwise(
@@ -154,7 +158,7 @@ fn two_operands(operation: Binary<'_>) -> u64 {
     }
 }
 
-/// What a thousand values take that are combined.
+/// Returns the time to combine a thousand values.
 fn combining(reducer: Reducer) -> u64 {
     match reducer {
         Reducer::Sum => ADDED_UP,
@@ -162,7 +166,7 @@ fn combining(reducer: Reducer) -> u64 {
     }
 }
 
-/// How many times a broadcast repeats what it reads.
+/// Returns how many times a broadcast repeats its operand.
 fn times(counts: &[u64]) -> u64 {
     let mut times = 1u64;
     for count in counts {

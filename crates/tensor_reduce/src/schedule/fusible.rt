@@ -1,4 +1,4 @@
-//! Which steps may be fused into their readers, and which readers take what is fused into them.
+//! Which steps may be fused into their readers, and which readers may have steps fused into them.
 
 ghost use Rattle.std.specs.Prelude.{IsTrue};
 ghost use Rattle.tensor_ops.specs.Parts.{has_parts};
@@ -7,28 +7,19 @@ ghost use Rattle.tensor_reduce.specs.Plan.{term_of_step};
 
 use crate::schedule::sharding::{are_first, has_contiguous_parts};
 use crate::step::Step;
-use tensor_ops::{Binary, Expr, Movement, Node, Unary};
+use tensor_ops::{Binary, Expr, Node, Unary};
 
-/// An operand of at most so many values is a tensor of its own, though it is read once.
+/// An operand of at most this number of values gets a tensor of its own, though it is read once.
 pub(crate) const SHORT: u64 = 4096;
 
-/// Whether a step has many values, each of which can be worked out as it is read. Those of a step
-/// that combines are worked out together, by all workers.
+/// Returns whether a step has many values, and each can be computed as it is read. A step that
+/// combines values is not fusible, since its values are computed together by all workers.
 pub(crate) fn is_fusible(step: &Step) -> bool {
-    let combines = matches!(
-        step.expr().node(),
-        Node::Unary(Unary::Reduce(_, _) | Unary::Along(_, _), _)
-            | Node::Binary(
-                Binary::Contract(_) | Binary::Convolve(_) | Binary::Take(_),
-                _,
-                _
-            )
-    );
-    step.dims().size() > SHORT && !combines
+    step.dims().size() > SHORT && !step.expr().combines()
 }
 
-/// Whether an expression is a reduction, and what is combined lies side by side or is read in any
-/// order.
+/// Returns whether an expression is a reduction into which its operand may be fused: the values
+/// that are combined lie side by side, or can be read in any order.
 pub(crate) fn is_fusing_reduction(expr: &Expr, in_any_order: bool) -> bool
     ensures { IsTrue result → IsTrue (has_parts (term_of expr.now)) }
 {
@@ -38,7 +29,7 @@ pub(crate) fn is_fusing_reduction(expr: &Expr, in_any_order: bool) -> bool
     }
 }
 
-/// Whether a step is a contraction of one value, and what is combined lies side by side.
+/// Returns whether a step is a contraction of one value over the first axes of both operands.
 pub(crate) fn is_inner_product(step: &Step) -> bool
     ensures { IsTrue result → IsTrue (has_parts (term_of_step step.now)) }
 {
@@ -46,24 +37,12 @@ pub(crate) fn is_inner_product(step: &Step) -> bool
     step.dims().size() == 1 && is_contraction && has_contiguous_parts(step.expr())
 }
 
-/// Whether an expression is a strided view: a tensor, moved so that a contraction takes its values
-/// where they lie.
+/// Returns whether an expression is a strided view: a tensor, moved so that a contraction can read
+/// its values where they lie.
 pub(crate) fn is_strided_view(expr: &Expr) -> bool {
     match expr.node() {
         Node::Input(_) => true,
-        Node::Unary(Unary::Move(movement), a) => keeps_strides(movement) && is_strided_view(a),
+        Node::Unary(Unary::Move(movement), a) => movement.keeps_strides() && is_strided_view(a),
         _ => false,
-    }
-}
-
-/// Whether what a movement gives lies at places that rise by a step along each axis.
-fn keeps_strides(movement: Movement<'_>) -> bool {
-    match movement {
-        Movement::Broadcast(_)
-        | Movement::Slice(_, _)
-        | Movement::Shuffle(_)
-        | Movement::Chip(_, _)
-        | Movement::Stride(_) => true,
-        Movement::Reshape(_) | Movement::Reverse(_) => false,
     }
 }

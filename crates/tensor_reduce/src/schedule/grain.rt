@@ -1,30 +1,32 @@
-//! The grain of parallel work: how many values a leaf has.
+//! The grain of parallel work: how many values a leaf has. It changes times alone, and no value.
 
-ghost use Rattle.std.specs.Prelude.{◌<◌};
+ghost use Rattle.std.specs.Prelude.{◌≡◌, ◌*◌, ◌/◌, ◌<◌, min};
+ghost use Rattle.tensor_reduce.specs.Shards.{most_shards};
+ghost use Rattle.tensor_reduce.specs.private.Worth.{IsWorth, IsWorthOf};
 
 use crate::schedule::worth::Load;
 use crate::shards::MOST_SHARDS;
 use tensor_ops::{BAND_COLUMNS, PAIRED_COLUMNS, WIDE_BAND_COLUMNS};
 
-/// How many leaves of values that are combinations there are for each worker, so that none waits
-/// long for the last.
+/// The most leaves for each worker, in a step that combines values. So no worker waits long for the
+/// last leaf.
 const SHARES: u64 = 4;
 
-/// How many columns a leaf of a contraction has at least, where each share has as many.
+/// The least number of columns of a contraction's leaf, if there are as many for each leaf.
 const BAND: u64 = BAND_COLUMNS as u64;
 
-/// Up to how many columns each leaf packs the first operand for itself, so that there is one for each
-/// worker and no more.
+/// Up to this number of columns in all, each leaf packs the first operand for itself. So there is
+/// one leaf for each worker and no more.
 const WIDE_BAND: u64 = WIDE_BAND_COLUMNS as u64;
 
-/// From how many columns on each leaf does so again.
+/// From this number of columns in all on, each leaf packs the first operand for itself, too.
 const PAIRED: u64 = PAIRED_COLUMNS as u64;
 
-/// How many columns it has then at most, or half as many at least: so many that packing takes little
-/// of its time.
+/// The number of columns that a leaf aims at from [`PAIRED`] columns on, or at least half of it. So
+/// packing takes little of the leaf's time.
 const WIDE: u64 = 256;
 
-/// What leaves are sized for: so many workers, which take at most a block of places at a time.
+/// What leaves are sized for: the number of workers, and the most places that they take at a time.
 #[derive(Clone, Copy, Drop)]
 pub(crate) struct Grain {
     pub(crate) workers: u32,
@@ -33,33 +35,49 @@ pub(crate) struct Grain {
 }
 
 impl Grain {
-    /// For the workers that are worth their start where so many values cost so much: a leaf is a
-    /// block of them.
-    pub(crate) fn for_values(self, values: u64, cost: u64) -> Grain {
+    /// Returns the grain for a step of this cost whose leaves are blocks of its values. Only as
+    /// many workers are left as save time.
+    pub(crate) fn for_values(self, values: u64, cost: u64) -> Grain
+        ensures workers { IsWorthOf values cost (values / self.block) self.workers result.workers }
+        ensures block { result.block ≡ self.block }
+    {
         self.for_load(Load::new(values, cost, values / self.block))
     }
 
-    /// The same of a contraction, whose leaves are whole columns and never small.
-    pub(crate) fn for_columns(self, values: u64, cost: u64) -> Grain {
+    /// Returns the grain for a contraction of this cost, whose leaves are whole columns and never
+    /// small. Only as many workers are left as save time.
+    pub(crate) fn for_columns(self, values: u64, cost: u64) -> Grain
+        ensures workers { IsWorthOf values cost 0 self.workers result.workers }
+        ensures block { result.block ≡ self.block }
+    {
         self.for_load(Load::new(values, cost, 0))
     }
 
-    /// The same of few values that combine those of so many places, in shards of a block.
-    pub(crate) fn for_shards(self, values: u64, places: u64, cost: u64) -> Grain {
+    /// Returns the grain for a step of few values that combine many places, in shards of a block.
+    /// Only as many workers are left as save time.
+    pub(crate) fn for_shards(self, values: u64, places: u64, cost: u64) -> Grain
+        ensures workers { IsWorthOf values cost (min (values * most_shards) (places / self.block))
+            self.workers result.workers }
+        ensures block { result.block ≡ self.block }
+    {
         let most = values.saturating_mul(MOST_SHARDS);
         self.for_load(Load::new(values, cost, most.min(places / self.block)))
     }
 
-    /// For the workers that are worth their start, of those that are there.
-    fn for_load(self, load: Load) -> Grain {
+    /// Returns the grain for the workers, of those that there are, with which a load takes least
+    /// time.
+    fn for_load(self, load: Load) -> Grain
+        ensures workers { IsWorth load self.workers result.workers }
+        ensures block { result.block ≡ self.block }
+    {
         Grain {
             workers: load.workers(self.workers),
             block: self.block,
         }
     }
 
-    /// How many values a leaf has of a step that combines values of so many places: a block at
-    /// most, and so few that there is a leaf for each block of the places, up to some for each
+    /// Returns how many values a leaf has of a step that combines values of `places` places. It is
+    /// at most a block, and there is a leaf for each block of the places, up to a few for each
     /// worker.
     pub(crate) fn leaf_size(self, values: u64, places: u64) -> u64
         ensures { 0 < result }
@@ -67,9 +85,9 @@ impl Grain {
         values.div_ceil(self.shares(places)).min(self.block).max(1)
     }
 
-    /// How many values a leaf has of a contraction over operands of so many places at most, where a
-    /// column of the result has so many rows: whole columns, since one that is cut is packed twice.
-    /// On one worker it is one leaf, so that no piece is copied.
+    /// Returns how many values a leaf of a contraction has. These are whole columns of `rows` rows,
+    /// since a column that is cut is packed twice. `places` is the size of the larger operand. On
+    /// one worker there is one leaf, so that nothing is copied.
     pub(crate) fn leaf_of_columns(self, values: u64, places: u64, rows: u64) -> u64
         ensures { 0 < result }
     {
@@ -92,8 +110,9 @@ impl Grain {
         whole.saturating_mul(rows).max(1)
     }
 
-    /// How many of all columns a leaf has that finds the first operand packed: about a block, but not
-    /// few of them. Of few columns in all there is no leaf more than workers.
+    /// Returns how many of `all` columns a leaf has that finds the first operand packed: about a
+    /// block, but not few. If there are few columns in all, there is at most one leaf for each
+    /// worker.
     fn narrow(self, all: u64, shares: u64, rows: u64) -> u64
         requires shares { 0 < shares }
         requires rows { 0 < rows }
@@ -106,8 +125,8 @@ impl Grain {
         all.div_ceil(shares).min((self.block / rows).max(BAND))
     }
 
-    /// How many of many columns a leaf has that packs the first operand: as many as there are for each
-    /// worker, or for each of its turns.
+    /// Returns how many of `all` columns, which are many, a leaf has that packs the first operand
+    /// itself. The columns are dealt evenly to the workers, in one turn or several.
     fn wide(self, all: u64, shares: u64) -> u64
         requires shares { 0 < shares }
     {
@@ -118,8 +137,8 @@ impl Grain {
         columns.div_ceil(BAND).saturating_mul(BAND)
     }
 
-    /// Among how many leaves the work over so many places is shared: one for each block of them, up
-    /// to some for each worker.
+    /// Returns the number of leaves for work over the given number of places: one for each block,
+    /// up to a few for each worker.
     fn shares(self, places: u64) -> u64
         ensures { 0 < result }
     {

@@ -1,5 +1,5 @@
-//! The next of the steps left, and what of those before it is fused into it: where that is better,
-//! and where no other step left reads what would then be no tensor.
+//! The next of the steps left, and the steps that are fused into it: if that is faster, and if no
+//! other step left reads their tensors. specs/private/Next defines its term.
 
 ghost use Rattle.std.specs.Prelude.{◌≡◌, ◌<◌, ◌++◌, length, IfSome};
 
@@ -12,15 +12,15 @@ use crate::schedule::{Costed, Operand, Schedule};
 use crate::step::Step;
 use tensor_ops::{Inputs, Tensor};
 
-/// What is worked out next of the steps left, and by which schedule.
+/// The step that is evaluated next, with what is fused into it, and its schedule.
 #[derive(Drop)]
 pub(crate) enum Next<'a> {
     /// The first step.
     Alone(&'a Step, Schedule),
-    /// The second step, with the first fused into it in the place of the tensor of this number.
+    /// The second step, with the first fused into it instead of the tensor of this number.
     Fused(u32, &'a Step, &'a Step, Schedule),
-    /// The third step, with the first two fused into it in the place of the tensors of this number
-    /// and the next.
+    /// The third step, with the first two fused into it instead of the tensors of this number and
+    /// the next.
     BothFused(u32, &'a Step, &'a Step, &'a Step, Schedule),
 }
 
@@ -28,8 +28,8 @@ impl<'a> Next<'a> {
     ghost use Rattle.tensor_reduce.specs.private.Next.{IsNextOf, fused_in, next_dims, next_schedule};
     ghost use Rattle.tensor_reduce.specs.Plan.{dims_of_step};
 
-    /// The next of these steps, over inputs and the tensors of the steps before it: the third if it
-    /// may have both before it fused into it, or the second with the first, or else the first.
+    /// Returns the next of the steps left, over inputs and the tensors of earlier steps: the third
+    /// if both before it may be fused into it, or the second if the first may, or else the first.
     pub(crate) fn of(
         left: &'a [Step],
         inputs: &Inputs,
@@ -54,7 +54,7 @@ impl<'a> Next<'a> {
         Next::Alone(step, schedule)
     }
 
-    /// The second of these steps, with the first fused into it.
+    /// Returns the second of the steps left, with the first fused into it, if that is faster.
     fn with_one_fused(
         left: &'a [Step],
         inputs: &Inputs,
@@ -88,7 +88,7 @@ impl<'a> Next<'a> {
         Some(Next::Fused(number as u32, first, second, schedule))
     }
 
-    /// The third of these steps, with the first two fused into it.
+    /// Returns the third of the steps left, with the first two fused into it, if that is faster.
     fn with_both_fused(
         left: &'a [Step],
         inputs: &Inputs,
@@ -125,7 +125,7 @@ impl<'a> Next<'a> {
         Some(Next::BothFused(number as u32, first, second, third, schedule))
     }
 
-    /// How many steps are fused into it.
+    /// Returns how many steps are fused into the last one.
     pub(crate) fn fused(&self) -> usize
         ensures { result ≡ fused_in self.now }
     {
@@ -136,7 +136,7 @@ impl<'a> Next<'a> {
         }
     }
 
-    /// The last of its steps, into which the others are fused.
+    /// Returns the last step, into which the others are fused.
     pub(crate) fn step(&self) -> &'a Step
         ensures { dims_of_step result.now ≡ next_dims self.now }
     {
@@ -146,7 +146,7 @@ impl<'a> Next<'a> {
         }
     }
 
-    /// By which schedule it is worked out.
+    /// Returns the schedule.
     pub(crate) fn schedule(&self) -> Schedule
         ensures { result ≡ next_schedule self.now }
     {

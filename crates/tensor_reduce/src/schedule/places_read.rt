@@ -1,26 +1,24 @@
-//! How many places the tensors have that expressions read.
+//! The sizes of the tensors that expressions read.
 
 use crate::schedule::rows::row_width;
 use tensor_ops::{Binary, Dims, Expr, Inputs, Movement, Node, Tensor, Unary};
 
-/// How many values a tensor has at most that is read as fast in any order as in its own: 256 KiB.
+/// The most values of a tensor that is read as fast in any order as in its own: 256 KiB.
 const NEAR: u64 = 32_768;
 
-/// How many places the tensor has of which a step combines values, or the larger of two. A step
-/// that combines none has no such tensor, and no places.
+/// Returns the size of the larger operand of a step that combines values: a reduction, contraction,
+/// convolution, take or operation along an axis. It is 0 for other steps.
 pub(crate) fn places_combined(expr: &Expr, inputs: &Inputs, earlier: &[Tensor]) -> u64 {
     match expr.node() {
-        Node::Unary(Unary::Reduce(_, _) | Unary::Along(_, _), a) => {
-            places_of(a, inputs, earlier)
-        }
-        Node::Binary(Binary::Contract(_) | Binary::Convolve(_) | Binary::Take(_), a, b) => {
+        Node::Unary(operation, a) if operation.combines() => places_of(a, inputs, earlier),
+        Node::Binary(operation, a, b) if operation.combines() => {
             places_of(a, inputs, earlier).max(places_of(b, inputs, earlier))
         }
         _ => 0,
     }
 }
 
-/// How many places the tensor has that an operand is, among the inputs and those of earlier steps.
+/// Returns the size of an operand that is an input or the tensor of an earlier step, or else 0.
 fn places_of(operand: &Expr, inputs: &Inputs, earlier: &[Tensor]) -> u64 {
     match dims_of(operand, inputs, earlier) {
         Some(dims) => dims.size(),
@@ -28,7 +26,7 @@ fn places_of(operand: &Expr, inputs: &Inputs, earlier: &[Tensor]) -> u64 {
     }
 }
 
-/// The dims of the tensor that an operand is, among the inputs and those of earlier steps.
+/// Returns the dims of an operand that is an input or the tensor of an earlier step.
 pub(crate) fn dims_of<'a>(
     operand: &Expr,
     inputs: &'a Inputs,
@@ -44,8 +42,8 @@ pub(crate) fn dims_of<'a>(
     Some(tensor.dims())
 }
 
-/// How many rows a column of a contraction's result has, where its first operand is a tensor: a row
-/// for each index list of that operand's axes that aren't paired.
+/// Returns the number of rows of a column of a contraction's result, if the first operand is a
+/// tensor: a row for each index list of that operand's axes that aren't paired.
 pub(crate) fn rows_of_column(expr: &Expr, inputs: &Inputs, earlier: &[Tensor]) -> Option<u64> {
     let Node::Binary(Binary::Contract(pairs), first, _) = expr.node() else {
         return None;
@@ -54,8 +52,9 @@ pub(crate) fn rows_of_column(expr: &Expr, inputs: &Inputs, earlier: &[Tensor]) -
     Some(dims.size() / row_width(dims, pairs, true).max(1))
 }
 
-/// Whether the values of an expression are worked out as fast in any order as in that of their
-/// places: what it reads is near, and all of it are movements and operations on values.
+/// Returns whether the values of an expression are computed as fast in any order as in the order of
+/// their places: it has only operations on values and movements other than reshapes, and the
+/// tensors that it reads are small.
 pub(crate) fn is_read_in_any_order(expr: &Expr, inputs: &Inputs, earlier: &[Tensor]) -> bool {
     match expr.node() {
         Node::Input(_) => places_of(expr, inputs, earlier) <= NEAR,

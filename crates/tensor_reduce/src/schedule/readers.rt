@@ -1,4 +1,5 @@
-//! Which steps read a tensor.
+//! Which steps read a tensor. Fusing and freeing rest on this; specs/Readers and
+//! specs/private/Readers define it.
 
 ghost use Rattle.std.specs.Prelude.{◌≡◌, ◌+◌, ◌<◌, ◌^◌, false};
 ghost use Rattle.tensor_ops.specs.Tree.{term_of};
@@ -10,7 +11,7 @@ use crate::schedule::rows::is_tensor;
 use crate::step::Step;
 use tensor_ops::{Expr, Node};
 
-/// Whether one of these steps reads the tensor of a number.
+/// Returns whether one of the steps reads the tensor of a number.
 pub(crate) fn are_reading(steps: &[Step], number: u32) -> bool
     ensures { result ≡ are_reading number steps.now }
 {
@@ -22,8 +23,8 @@ pub(crate) fn are_reading(steps: &[Step], number: u32) -> bool
     false
 }
 
-/// Whether the second of two operands reads the first, whose number is given, or one of the later
-/// steps reads one of both.
+/// Returns whether two operands are read elsewhere: the second step reads the first one's tensor,
+/// which has the given number, or a later step reads the tensor of either.
 pub(crate) fn are_read_elsewhere(number: u32, second: &Step, later: &[Step]) -> bool
     requires { number + 1 < 2 ^ 32 }
     ensures second { result ≡ false → reads number (term_of_step second.now) ≡ false }
@@ -33,7 +34,7 @@ pub(crate) fn are_read_elsewhere(number: u32, second: &Step, later: &[Step]) -> 
     reads(second.expr(), number) || are_reading(later, number) || are_reading(later, number + 1)
 }
 
-/// Whether an expression reads the tensor of a number.
+/// Returns whether an expression reads the tensor of a number.
 pub fn reads(expr: &Expr, number: u32) -> bool
     ensures { result ≡ reads number (term_of expr.now) }
 {
@@ -45,7 +46,7 @@ pub fn reads(expr: &Expr, number: u32) -> bool
     }
 }
 
-/// Whether an expression is one operation, on the tensor of a number alone.
+/// Returns whether an expression is one operation on the tensor of a number alone.
 pub(crate) fn is_over(expr: &Expr, number: u32) -> bool
     ensures { result ≡ is_over number (term_of expr.now) }
 {

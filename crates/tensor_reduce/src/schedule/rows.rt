@@ -1,4 +1,4 @@
-//! The rows of a contraction's operand: how wide they are, and which of both operands it is.
+//! The width of the rows of a contraction's operand, and which of the two operands a tensor is.
 
 ghost use Rattle.std.specs.Prelude.{◌≡◌};
 ghost use Rattle.tensor_ops.specs.Tree.{term_of};
@@ -6,7 +6,7 @@ ghost use Rattle.tensor_reduce.specs.private.Readers.{is_tensor};
 
 use tensor_ops::{Dims, Expr, Node};
 
-/// How many places a row has of an operand that is the first of a contraction, or the second.
+/// Returns the number of values of a row of the first or the second operand of a contraction.
 pub(crate) fn row_width(dims: &Dims, pairs: &[(u64, u64)], is_first: bool) -> u64 {
     let mut width = 1u64;
     for pair in pairs {
@@ -18,7 +18,7 @@ pub(crate) fn row_width(dims: &Dims, pairs: &[(u64, u64)], is_first: bool) -> u6
     width
 }
 
-/// Whether an expression is the tensor of a number.
+/// Returns whether an expression is the tensor of a number.
 pub(crate) fn is_tensor(expr: &Expr, number: u64) -> bool
     ensures { result ≡ is_tensor number (term_of expr.now) }
 {

@@ -1,4 +1,4 @@
-//! How the values of a step are divided into shards, and of which expressions that can be done.
+//! How the values of a step are divided into shards, and for which expressions that can be done.
 
 ghost use Rattle.std.specs.Prelude.{◌<◌, IsTrue};
 ghost use Rattle.tensor_ops.specs.Parts.{has_parts};
@@ -7,25 +7,25 @@ ghost use Rattle.tensor_ops.specs.Tree.{term_of};
 use crate::schedule::grain::Grain;
 use tensor_ops::{Binary, Expr, MAX_ELEMENTS, Node, Unary};
 
-/// How many values a step has at most whose every value is divided into shards of a block.
+/// The most values of a step whose values are each divided into shards of a block.
 pub(crate) const FEW_VALUES: u64 = 64;
 
 /// How the values of a step are divided into shards.
 #[derive(Clone, Copy, Drop)]
 pub(crate) struct Sharding {
-    /// How many workers take part.
+    /// The number of workers that take part.
     pub(crate) workers: u32,
-    /// How many index lists a shard has, where there are not too many shards.
+    /// The number of index lists of a shard, unless there would be too many shards.
     pub(crate) width: u64,
-    /// How many shards are worked out at a time.
+    /// The number of shards that are evaluated at a time.
     pub(crate) leaf: u64,
-    /// Up to how many index lists of all values the shards are one leaf.
+    /// The most index lists of all values together for which all shards are one leaf.
     pub(crate) few: u64,
     ghost some: { 0 < leaf },
 }
 
 impl Sharding {
-    /// Shards of a block of index lists, each a leaf of its own.
+    /// Returns shards of a block of index lists, each a leaf of its own.
     pub(crate) fn by_blocks(grain: Grain) -> Sharding {
         Sharding {
             workers: grain.workers,
@@ -35,7 +35,7 @@ impl Sharding {
         }
     }
 
-    /// A shard for each value, so many of them a leaf.
+    /// Returns one shard for each value, `leaf` of them at a time.
     pub(crate) fn by_values(leaf: u64, grain: Grain) -> Sharding
         requires { 0 < leaf }
     {
@@ -47,9 +47,9 @@ impl Sharding {
         }
     }
 
-    /// Shards of what so many workers work out so many places at a time, where a value is over so
-    /// many of them: a leaf has as many places of one value, or whole values of as many. However few
-    /// they are, each may take long.
+    /// Returns shards for a reduction of a contraction whose leaves have `places` values, of which
+    /// a value combines `run`. A leaf is a part of one value, or several whole values. There is no
+    /// least size, since even few values may take long.
     pub(crate) fn by_places(workers: u32, places: u64, run: u64) -> Sharding {
         if places <= run {
             return Sharding {
@@ -68,8 +68,8 @@ impl Sharding {
     }
 }
 
-/// Whether an expression is a reduction or a contraction, and what is combined into one of its
-/// values lies side by side: it drops or pairs the first axes.
+/// Returns whether an expression is a reduction or a contraction, and the values that are combined
+/// lie side by side: it drops or pairs the first axes.
 pub(crate) fn has_contiguous_parts(expr: &Expr) -> bool
     ensures { IsTrue result → IsTrue (has_parts (term_of expr.now)) }
 {
@@ -80,7 +80,7 @@ pub(crate) fn has_contiguous_parts(expr: &Expr) -> bool
     }
 }
 
-/// Whether axes, each of them named once, are the first.
+/// Returns whether the axes, each of them named once, are the first ones.
 pub(crate) fn are_first(axes: &[u64]) -> bool {
     for axis in axes {
         if *axis >= axes.len() as u64 {
@@ -90,7 +90,7 @@ pub(crate) fn are_first(axes: &[u64]) -> bool {
     true
 }
 
-/// Whether pairs are the first axes of both, in order.
+/// Returns whether the pairs are the first axes of both operands, in order.
 fn are_first_pairs(pairs: &[(u64, u64)]) -> bool {
     for axis in 0..pairs.len() {
         if pairs[axis] != (axis as u64, axis as u64) {

@@ -1,4 +1,5 @@
-//! A stage: what the workers work out in one go of the steps left, and which steps end with it.
+//! A stage: the steps that are evaluated together next. `running` evaluates it; specs/private/Stage
+//! defines its term.
 
 ghost use Rattle.std.specs.Prelude.{◌≡◌, ◌<◌, ◌++◌, length, IfSome};
 ghost use Rattle.tensor_reduce.specs.private.Stage.{IsReducing};
@@ -11,20 +12,20 @@ use crate::schedule::readers::{are_reading, is_over};
 use crate::step::Step;
 use tensor_ops::{Inputs, Tensor};
 
-/// What is worked out in one go of the steps left.
+/// The steps that are evaluated together, of the steps left.
 #[derive(Drop)]
 pub(crate) enum Stage<'a> {
-    /// The next step, by its own schedule.
+    /// The next step with what is fused into it, by its own schedule.
     Plain(Next<'a>),
-    /// A reduction, with the next step fused into it in the place of the tensor of this number. That
-    /// is a contraction, whose values are combined as its leaves have them.
+    /// A reduction, with the next step fused into it instead of the tensor of this number. The next
+    /// step is a contraction, whose values are combined leaf by leaf.
     Reduced(Next<'a>, u32, &'a Step, Schedule),
 }
 
 impl<'a> Stage<'a> {
     ghost use Rattle.tensor_reduce.specs.private.Stage.{IsStageOf, fused_in_stage};
 
-    /// What is worked out of these steps, over inputs and the tensors of the steps before them.
+    /// Returns the next stage of the steps left, over inputs and the tensors of earlier steps.
     pub(crate) fn of(
         left: &'a [Step],
         inputs: &Inputs,
@@ -46,7 +47,7 @@ impl<'a> Stage<'a> {
         }
     }
 
-    /// How many steps are fused into its last one.
+    /// Returns how many steps are fused into the stage's last one.
     pub(crate) fn fused(&self) -> usize
         ensures { result ≡ fused_in_stage self.now }
     {
@@ -57,8 +58,9 @@ impl<'a> Stage<'a> {
     }
 }
 
-/// The first of the steps behind the tensor of a number, and its schedule, where it is a reduction
-/// that takes the values of a contraction as they come, and no other step reads them.
+/// Returns the first step behind a contraction, with a schedule, if it is a reduction that combines
+/// the contraction's values leaf by leaf and no other step reads them. `number` is the
+/// contraction's tensor.
 fn reduction_of<'a>(
     behind: &'a [Step],
     number: u64,

@@ -1,44 +1,48 @@
-//! How many workers are worth their start. Times are in nanoseconds, and such as an idle machine of
-//! four processors takes.
+//! How many workers save time. Times are in nanoseconds, as on an idle machine of four processors.
+//! The rule is defined in specs/private/Worth, which has these numbers; tests/test_starts.py has
+//! them too. A worker's start counts three times, since starts are dearer on other machines.
 
 ghost use Rattle.std.specs.Prelude.{◌≡◌, ◌≤◌, ◌+◌, ◌^◌};
 
-/// How long opening and closing a pool takes.
+/// The time to open and close a pool.
 const POOL: u64 = 40_000;
 
-/// How long it takes to start one worker more and to wait for its end: workers are started one
-/// after the other.
-const START: u64 = 60_000;
+/// What one more worker counts: three times the time to start it and to wait for its end. Workers
+/// are started one after the other.
+const START: u64 = 180_000;
 
-/// How long it takes to hand out one leaf and to take its piece.
+/// The time to hand out one leaf and to take its values.
 const LEAF: u64 = 400;
 
-/// How long a thousand values take that are written where nothing stood.
+/// The time to write a thousand values to new memory.
 const WRITTEN: u64 = 1_000;
 
-/// How long a thousand take that are brought from their pieces into the list of all.
+/// The time to copy a thousand values of leaves into the list of all values.
 const JOINED: u64 = 1_200;
 
-/// Longer than anything here takes: two years.
-const LONGEST: u64 = 1 << 56;
+/// Longer than any time here: thirteen days.
+const LONGEST: u64 = 1 << 50;
 
-/// What there is to do for the values of a step.
+/// The work of a step.
 #[derive(Clone, Copy, Drop)]
 pub(crate) struct Load {
-    /// How long one thread works them out and writes them.
+    /// The time of one thread to compute the values and to write them.
     work: u64,
-    /// How much longer workers do together, since they take leaves.
+    /// The additional time of workers together, to take leaves.
     handing: u64,
-    /// How long the calling thread joins the pieces that workers hand in.
+    /// The time of the calling thread to join the values of leaves.
     joining: u64,
-    ghost small: { work + handing + joining ≤ 2 ^ 58 },
+    ghost small: { work + handing + joining ≤ 2 ^ 52 },
 }
 
 impl Load {
-    ghost use Rattle.tensor_reduce.specs.private.Worth.{time_on, IsQuickest};
+    ghost use Rattle.tensor_reduce.specs.private.Worth.{time_on, IsLoadOf, IsQuickest};
 
-    /// So many values, which take so long to be worked out, in so many leaves.
-    pub(crate) fn new(values: u64, cost: u64, leaves: u64) -> Load {
+    /// Returns the load of computing values, in the given number of leaves. `cost` is the time of
+    /// one thread.
+    pub(crate) fn new(values: u64, cost: u64, leaves: u64) -> Load
+        ensures { IsLoadOf values cost leaves result }
+    {
         let writing = values.saturating_mul(WRITTEN) / 1000;
         let joining = values.saturating_mul(JOINED) / 1000;
         Load {
@@ -48,13 +52,14 @@ impl Load {
         }
     }
 
-    /// On how many workers it takes the least time, of as many as are asked for, and at least one.
+    /// Returns the number of workers with which the load takes least time: at least one, and no
+    /// more than asked.
     pub(crate) fn workers(self, asked: u32) -> u32
         ensures least { 1 ≤ result }
         ensures most { 1 ≤ asked → result ≤ asked }
         ensures quickest { IsQuickest self asked result }
     {
-        // The starts of more take as long as one thread does.
+        // Starting more workers than this counts as much as the work takes on one thread.
         let most = u64::from(asked).min(self.work / START) as u32;
         let (mut best, mut least) = (1, self.work);
         for fewer in 1..most {
@@ -67,7 +72,8 @@ impl Load {
         best
     }
 
-    /// How long it takes on so many workers. One is the calling thread, which opens no pool.
+    /// Returns the time that the load takes on the given number of workers. One worker is the
+    /// calling thread, which opens no pool.
     fn time_on(self, workers: u32) -> u64
         ensures { result ≡ time_on self workers }
     {

@@ -1,4 +1,4 @@
--- How bytes are parted into lines, for the private clauses of the server.
+-- How a stream of bytes is split into lines, for the private clauses of the server.
 use Rattle.std.specs.Prelude.{◌≡◌, [], ◌∷◌, ◌++◌}
 use Rattle.message_server.specs.Parting.{Parting}
 use Rattle.tensor_runner.specs.Lines.{lines_of}

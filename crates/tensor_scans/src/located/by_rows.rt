@@ -1,5 +1,6 @@
-//! Lines whose values lie apart, row by row: a row has one value of each line of its block. What is
-//! known of lines by some of their rows stands in two lists: the best of each, and where that stands.
+//! Argmax and argmin of lines whose values lie apart (stride above 1), row by row. Two lists keep
+//! what is known of each line: its best value so far, and the number where that stands first. A
+//! change touches `specs/private/Firsts`.
 
 ghost use Rattle.std.specs.Prelude.{◌≡◌, ◌<◌, ◌≤◌, ◌+◌, ◌%◌, ◌^◌, ℕ, length, false};
 ghost use Rattle.tensor_scans.specs.Lines.{is_cumulative};
@@ -12,19 +13,22 @@ use crate::located::set_all;
 use crate::operation::LineOperation;
 use crate::progress::Progress;
 
-/// How many lines are taken together: so many that much of a row is read in one go, and so few that
-/// what is known of them stays near.
+/// How many lines are handled together: enough to read a long part of each row, and few enough for
+/// their two lists to stay in the cache.
 const GROUP: usize = 1024;
 
-/// A row of a block: the values that lines have at a number.
+/// A row of a block, or a part of one: the values that some lines have at one number.
 #[derive(Clone, Copy, Drop)]
 struct Row<'a> {
+    /// The number of these values in their lines.
     number: usize,
+    /// The value of each line at this number.
     values: &'a [i64],
 }
 
 impl AlongLines<'_> {
-    /// Writes where each line's greatest or least stands first, at places of the result from one on.
+    /// Writes the first number of the greatest or the least value of each line, at the result
+    /// places `[first, first + out.len())`.
     #[inline(always)]
     pub(crate) fn fill_by_rows(self, first: usize, out: &mut [i64])
         requires single { is_cumulative self.operation ≡ false }
@@ -48,7 +52,8 @@ impl AlongLines<'_> {
         }
     }
 
-    /// The same of some lines of one block, given room for the best of each.
+    /// Writes the first number of the greatest or the least value for lines of one block, from
+    /// result place `place` on. `best` is scratch space, one value for each line.
     #[inline(always)]
     fn fill_group(self, place: usize, best: &mut [i64], out: &mut [i64])
         requires single { is_cumulative self.operation ≡ false }
@@ -73,7 +78,7 @@ impl AlongLines<'_> {
     }
 }
 
-/// One row more, that of a number: the best of each line with it, and where that stands first.
+/// Takes one more row: updates the best value of each line and the number where it stands first.
 #[inline(always)]
 fn take_row(operation: LineOperation, row: Row<'_>, best: &mut [i64], firsts: &mut [i64])
     requires single { is_cumulative operation ≡ false }

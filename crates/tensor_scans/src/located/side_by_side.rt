@@ -1,5 +1,6 @@
-//! Lines whose values lie side by side. The best of them is worked out a chunk after the other, with
-//! no heed to places; where it stands is looked for at the end, in the chunk that changed it last.
+//! Argmax and argmin of lines whose values lie side by side (stride 1). The best value is computed
+//! chunk by chunk. Its place is searched at the end, in the last chunk that changed the best value.
+//! No result depends on `CHUNK`.
 
 ghost use Rattle.std.specs.Prelude.{◌≡◌, ◌<◌, ◌≤◌, ◌+◌, ℕ, length, false};
 ghost use Rattle.std.specs.List.{fold};
@@ -12,12 +13,13 @@ use crate::along::AlongLines;
 use crate::operation::LineOperation;
 use tensor_values::Reducer;
 
-/// How many values a chunk has: so many that it costs little to ask whether it changed the best, and
-/// so few that it costs little to look through one.
+/// The number of values in a chunk: large enough that testing for a new best value costs little,
+/// and small enough that searching one chunk costs little.
 const CHUNK: usize = 128;
 
 impl AlongLines<'_> {
-    /// Writes where each line's greatest or least stands first, at places of the result from one on.
+    /// Writes the first number of the greatest or the least value of each line, at the result
+    /// places `[first, first + out.len())`.
     #[inline(always)]
     pub(crate) fn fill_side_by_side(self, first: usize, out: &mut [i64])
         requires single { is_cumulative self.operation ≡ false }
@@ -37,7 +39,7 @@ impl AlongLines<'_> {
     }
 }
 
-/// Where the greatest or the least of some values stands first; 0 where there are none.
+/// Returns the first place of the greatest or the least value; 0 if there are no values.
 #[inline(always)]
 fn first_of(operation: LineOperation, values: &[i64]) -> i64
     requires { is_cumulative operation ≡ false }
@@ -59,7 +61,7 @@ fn first_of(operation: LineOperation, values: &[i64]) -> i64
     (chunk + place_of(best, &values[chunk..])) as i64
 }
 
-/// A value, and all others combined with it, one after the other.
+/// Combines `value` with all `others`, one after the other.
 #[inline(always)]
 fn combined_with(reducer: Reducer, value: i64, others: &[i64]) -> i64
     ensures { result ≡ fold (combine reducer) value others.now }
@@ -71,7 +73,7 @@ fn combined_with(reducer: Reducer, value: i64, others: &[i64]) -> i64
     all
 }
 
-/// Where a value stands first among some; how many they are where it stands nowhere.
+/// Returns the first place of `value` in `values`; the length if it isn't there.
 #[inline(always)]
 fn place_of(value: i64, values: &[i64]) -> usize
     ensures { result ≡ first_place value values.now }

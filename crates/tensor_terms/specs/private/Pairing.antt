@@ -1,4 +1,4 @@
--- What a contraction adds up over.
+-- What a contraction sums over.
 use Rattle.std.specs.Prelude.{◌≡◌, ℕ, List}
 use Rattle.tensor_shape.specs.Index.{size_of}
 use Rattle.tensor_terms.specs.Contents.{Contents}
@@ -8,7 +8,8 @@ use Rattle.tensor_terms.specs.Term.{Term}
 use Rattle.tensor_terms.specs.Merged.{dims_at, other_dims}
 use Rattle.tensor_terms.specs.declared.cursor.Pairing.{Pairing}
 
--- both terms' dims, the paired axes of each, and the sizes of the first's paired and other dims
+-- a pairing has the dims of both terms, the paired axes of each, and the sizes of the first term's
+-- paired dims and of its other dims
 pub record IsPairing (inputs : List Contents) (pairs : List (ℕ × ℕ)) (a b : Term) (p : Pairing) :
     Type 0 where
   pub first : p.first ≡ shape_of a inputs

@@ -1,4 +1,4 @@
-//! The result dims of operations along one axis, and of takes.
+//! The result dims of operations along one axis, and of takes. A change touches `specs/Along`.
 
 ghost use Rattle.std.specs.Prelude.{◌≡◌, ◌≤◌, ◌<◌, length};
 ghost use Rattle.tensor_shape.specs.Legal.{highest_rank, IsPossible};
@@ -10,7 +10,8 @@ use crate::fault::ExprFault;
 use tensor_scans::LineOperation;
 use tensor_shape::{Bounds, Dims, MAX_RANK, PerAxis};
 
-/// The result dims of an operation along an axis of an operand of these dims, or its own fault.
+/// Returns the result dims of an operation along an axis of an operand of these dims, or the fault
+/// of its check.
 pub fn along_dims(operation: LineOperation, axis: u64, dims: &Dims) -> Result<Dims, ExprFault>
     ensures { result ≡ along_dims operation axis dims.now }
 {
@@ -21,12 +22,12 @@ pub fn along_dims(operation: LineOperation, axis: u64, dims: &Dims) -> Result<Di
     if operation.is_cumulative() {
         return Ok(dims.copied());
     }
-    // They are legal, since a factor goes.
+    // The result is legal, since it only lacks a factor.
     dims_without(axis as usize, sizes)
 }
 
-/// The result dims of a take along an axis of the first by numbers of the second's dims, within
-/// bounds, or the first of its own faults.
+/// Returns the result dims of a take within `bounds`, or the fault of the first check that fails.
+/// The axis of `first` is replaced by all axes of `second`, which holds the indices to take.
 pub fn taken_dims(bounds: Bounds, axis: u64, first: &Dims, second: &Dims) -> Result<Dims, ExprFault>
     requires { IsPossible bounds }
     ensures { result ≡ taken_dims bounds axis first.now second.now }
@@ -38,7 +39,8 @@ pub fn taken_dims(bounds: Bounds, axis: u64, first: &Dims, second: &Dims) -> Res
     replaced_dims(bounds, axis as usize, sizes, second.as_slice())
 }
 
-/// Sizes with others in the place of one, which have to be within bounds.
+/// Returns the sizes with `others` in the place of the size of one axis, if they are within
+/// `bounds`.
 fn replaced_dims(
     bounds: Bounds,
     axis: usize,

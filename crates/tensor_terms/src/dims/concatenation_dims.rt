@@ -1,4 +1,4 @@
-//! The result dims of concatenations.
+//! The result dims of concatenations. A change touches `specs/Concatenation`.
 
 ghost use Rattle.std.specs.Prelude.{◌≡◌, ◌≤◌, ◌<◌, ◌+◌, ◌^◌, length, slice_index, remove};
 ghost use Rattle.std.specs.Prelude.{nat_eq, Ok, IsOk};
@@ -11,7 +11,8 @@ use crate::dims::movement_dims::{extend, legal_dims};
 use crate::fault::ExprFault;
 use tensor_shape::{Bounds, Dims, PerAxis};
 
-/// The result dims of a concatenation along an axis, within bounds, or the first of its own faults.
+/// Returns the result dims of a concatenation along an axis within `bounds`, or the fault of the
+/// first check that fails.
 pub fn concatenated_dims(
     bounds: Bounds,
     axis: u64,
@@ -35,7 +36,7 @@ pub fn concatenated_dims(
     joined_dims(bounds, axis as usize, firsts, seconds)
 }
 
-/// Whether sizes are the same but along one axis.
+/// Whether all sizes but the one of this axis are equal.
 fn agree_but_at(axis: usize, firsts: &[u64], seconds: &[u64]) -> bool
     requires axis { axis < length firsts.now }
     requires same { length seconds.now ≡ length firsts.now }
@@ -44,7 +45,7 @@ fn agree_but_at(axis: usize, firsts: &[u64], seconds: &[u64]) -> bool
     firsts[..axis] == seconds[..axis] && firsts[axis + 1..] == seconds[axis + 1..]
 }
 
-/// The sizes, with both along one axis.
+/// Returns the first sizes with the second size added along one axis, if they are within `bounds`.
 fn joined_dims(
     bounds: Bounds,
     axis: usize,

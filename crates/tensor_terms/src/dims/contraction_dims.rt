@@ -1,4 +1,5 @@
-//! The result dims of contractions.
+//! The result dims of contractions. A change touches `specs/Contraction`; fault_reasons has the
+//! limit again.
 
 ghost use Rattle.std.specs.Prelude.{◌≡◌, ◌≤◌, ◌++◌, ◌↔◌, length, IsSome, IfSome};
 ghost use Rattle.tensor_shape.specs.Legal.{highest_rank, IsPossible};
@@ -11,11 +12,11 @@ use crate::fault::ExprFault;
 use crate::index::index_parts::{dims_at, other_dims};
 use tensor_shape::{Bounds, Dims, PerAxis};
 
-/// The most products that a contraction adds up.
+/// The most products that a contraction or a convolution may sum, over all values of its result.
 pub(crate) const MOST_PRODUCTS: u64 = 1_073_741_824;
 
-/// The result dims of a contraction over pairs of axes of operands of these dims, within
-/// bounds, or the first of its own faults.
+/// Returns the result dims of a contraction over pairs of axes within `bounds`, or the fault of the
+/// first check that fails.
 pub fn contracted_dims(
     bounds: Bounds,
     pairs: &[(u64, u64)],
@@ -48,7 +49,7 @@ pub fn contracted_dims(
     Ok(outer)
 }
 
-/// The dims of the first, and then those of the second, which have to be within bounds.
+/// Returns the first dims followed by the second dims, if they are within `bounds`.
 fn joined_dims(bounds: Bounds, first: &Dims, second: &Dims) -> Result<Dims, ExprFault>
     requires { IsPossible bounds }
     ensures { result ≡ legal_dims bounds (first.now ++ second.now) }
@@ -62,7 +63,8 @@ fn joined_dims(bounds: Bounds, first: &Dims, second: &Dims) -> Result<Dims, Expr
     legal_dims(bounds, joined.as_slice())
 }
 
-/// The paired axes of both operands, where there are no more pairs than axes of the first.
+/// Returns the paired axes of the first operand and of the second; `None` if there are more pairs
+/// than axes of the first operand.
 pub fn paired_axes(pairs: &[(u64, u64)], first: &Dims) -> Option<(PerAxis, PerAxis)>
     ensures some { IsSome result ↔ (length pairs.now ≤ length first.now) }
     ensures first { IfSome result (λ axes. axes.0.items ≡ firsts pairs.now) }
@@ -75,7 +77,7 @@ pub fn paired_axes(pairs: &[(u64, u64)], first: &Dims) -> Option<(PerAxis, PerAx
     }
 }
 
-/// The paired axes of the first operand.
+/// Returns the paired axes of the first operand.
 fn firsts(pairs: &[(u64, u64)]) -> PerAxis
     requires { length pairs.now ≤ highest_rank }
     ensures { result.items ≡ firsts pairs.now }
@@ -87,7 +89,7 @@ fn firsts(pairs: &[(u64, u64)]) -> PerAxis
     axes
 }
 
-/// The paired axes of the second operand.
+/// Returns the paired axes of the second operand.
 fn seconds(pairs: &[(u64, u64)]) -> PerAxis
     requires { length pairs.now ≤ highest_rank }
     ensures { result.items ≡ seconds pairs.now }

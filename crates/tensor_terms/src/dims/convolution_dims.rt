@@ -1,4 +1,4 @@
-//! The result dims of convolutions.
+//! The result dims of convolutions. A change touches `specs/Convolution`.
 
 ghost use Rattle.std.specs.Prelude.{◌≡◌, length, true};
 ghost use Rattle.tensor_terms.specs.Convolution.{convolved_dims, fit_along, window_dims};
@@ -10,8 +10,7 @@ use crate::dims::reduction_dims::are_axes;
 use crate::fault::ExprFault;
 use tensor_shape::{Dims, PerAxis, WIDEST};
 
-/// The result dims of a convolution along axes, the second operand the kernel, or the first of its
-/// own faults.
+/// Returns the result dims of a convolution along axes, or the fault of the first check that fails.
 pub fn convolved_dims(axes: &[u64], dims: &Dims, kernel: &Dims) -> Result<Dims, ExprFault>
     ensures { result ≡ convolved_dims axes.now dims.now kernel.now }
 {
@@ -31,7 +30,7 @@ pub fn convolved_dims(axes: &[u64], dims: &Dims, kernel: &Dims) -> Result<Dims, 
     Ok(window_index)
 }
 
-/// Whether each dimension of a kernel is from 1 to that of its axis.
+/// Whether each size of a kernel is at least 1 and at most the size of its axis.
 fn fit_along(axes: &[u64], kernel: &[u64], sizes: &[u64]) -> bool
     requires { are_axes (length sizes.now) axes.now ≡ true }
     ensures { result ≡ fit_along axes.now kernel.now sizes.now }
@@ -45,8 +44,8 @@ fn fit_along(axes: &[u64], kernel: &[u64], sizes: &[u64]) -> bool
     (1 <= *size && *size <= sizes[*axis as usize]) && fit_along(axes, kernel, sizes)
 }
 
-/// How many places a kernel has along each of its axes, where it stays within the dims. They are
-/// legal, since no dimension grows.
+/// Returns the dims of the kernel's positions: along each axis of the kernel, the number of
+/// positions at which it lies within `dims`. The result is legal, since no size grows.
 fn window_dims(axes: &[u64], kernel: &[u64], dims: &Dims) -> Dims
     requires axes { are_axes (length dims.now) axes.now ≡ true }
     requires kernel { length kernel.now ≡ length axes.now }

@@ -1,4 +1,5 @@
-//! The result dims of movements.
+//! The result dims of movements, and calls on lists of sizes that the other modules use. A change
+//! touches `specs/Movement`, and the views of tensor_views, which read what these dims allow.
 
 ghost use Rattle.std.specs.Prelude.{◌≡◌, ◌≤◌, ◌<◌, ◌+◌, ◌++◌, ℕ, length, slice_index, remove};
 ghost use Rattle.std.specs.Prelude.{Ok, IsOk};
@@ -14,8 +15,8 @@ use crate::expr::node::Movement;
 use crate::fault::ExprFault;
 use tensor_shape::{Bounds, Dims, PerAxis, WIDEST};
 
-/// The result dims of a movement of an operand of these dims, within bounds, or the first of its own
-/// faults.
+/// Returns the result dims of a movement within `bounds`, or the fault of the first check that
+/// fails.
 pub fn moved_dims(bounds: Bounds, movement: Movement<'_>, dims: &Dims) -> Result<Dims, ExprFault>
     requires { IsPossible bounds }
     ensures { result ≡ moved_dims bounds (movement_at movement.entry) dims.now }
@@ -31,6 +32,7 @@ pub fn moved_dims(bounds: Bounds, movement: Movement<'_>, dims: &Dims) -> Result
     }
 }
 
+/// Returns the dims of a broadcast: each size times its count, which must not be 0.
 fn broadcast_dims(bounds: Bounds, counts: &[u64], dims: &Dims) -> Result<Dims, ExprFault>
     requires { IsPossible bounds }
     ensures { result ≡ moved_dims bounds (broadcast counts.now) dims.now }
@@ -44,6 +46,7 @@ fn broadcast_dims(bounds: Bounds, counts: &[u64], dims: &Dims) -> Result<Dims, E
     repeated_dims(bounds, counts, dims.as_slice())
 }
 
+/// Returns the dims of a slice, which are its extents.
 fn slice_dims(offsets: &[u64], extents: &[u64], dims: &Dims) -> Result<Dims, ExprFault>
     ensures { result ≡ moved_dims widest (slice offsets.now extents.now) dims.now }
 {
@@ -53,10 +56,11 @@ fn slice_dims(offsets: &[u64], extents: &[u64], dims: &Dims) -> Result<Dims, Exp
     if !fit_within(dims.as_slice(), offsets, extents) {
         return Err(ExprFault::OutOfRange);
     }
-    // They are legal, since no dimension grows.
+    // The result is legal, since no size grows.
     legal_dims(WIDEST, extents)
 }
 
+/// Returns the dims of a shuffle, whose order must name each axis once.
 fn shuffle_dims(order: &[u64], dims: &Dims) -> Result<Dims, ExprFault>
     ensures { result ≡ moved_dims widest (shuffle order.now) dims.now }
 {
@@ -67,10 +71,11 @@ fn shuffle_dims(order: &[u64], dims: &Dims) -> Result<Dims, ExprFault>
     if !has_all_below(sizes.len() as u64, order) {
         return Err(ExprFault::OutOfRange);
     }
-    // They are legal, since a permutation keeps the product.
+    // The result is legal, since a permutation keeps the product.
     shuffled_dims(order, sizes)
 }
 
+/// Returns the dims of a reshape, which must have as many elements as the operand.
 fn reshape_dims(bounds: Bounds, sizes: &[u64], dims: &Dims) -> Result<Dims, ExprFault>
     requires { IsPossible bounds }
     ensures { result ≡ moved_dims bounds (reshape sizes.now) dims.now }
@@ -83,6 +88,7 @@ fn reshape_dims(bounds: Bounds, sizes: &[u64], dims: &Dims) -> Result<Dims, Expr
     }
 }
 
+/// Returns the dims of a chip, which lack its axis.
 fn chip_dims(offset: u64, axis: u64, dims: &Dims) -> Result<Dims, ExprFault>
     ensures { result ≡ moved_dims widest (chip offset axis) dims.now }
 {
@@ -90,10 +96,11 @@ fn chip_dims(offset: u64, axis: u64, dims: &Dims) -> Result<Dims, ExprFault>
     if axis >= sizes.len() as u64 || offset >= sizes[axis as usize] {
         return Err(ExprFault::OutOfRange);
     }
-    // They are legal, since a factor goes.
+    // The result is legal, since it only lacks a factor.
     dims_without(axis as usize, sizes)
 }
 
+/// Returns the dims of a reverse: the operand's dims.
 fn reverse_dims(flags: &[bool], dims: &Dims) -> Result<Dims, ExprFault>
     ensures { result ≡ moved_dims widest (reverse flags.now) dims.now }
 {
@@ -104,7 +111,8 @@ fn reverse_dims(flags: &[bool], dims: &Dims) -> Result<Dims, ExprFault>
     }
 }
 
-/// What is left of each dimension where only the multiples of its step are read.
+/// Returns the dims of a stride: along each axis, the number of multiples of the step, which must
+/// not be 0.
 fn stride_dims(steps: &[u64], dims: &Dims) -> Result<Dims, ExprFault>
     ensures { result ≡ moved_dims widest (stride steps.now) dims.now }
 {
@@ -114,11 +122,11 @@ fn stride_dims(steps: &[u64], dims: &Dims) -> Result<Dims, ExprFault>
     if !none_is_zero(steps) {
         return Err(ExprFault::OutOfRange);
     }
-    // They are legal, since no dimension grows.
+    // The result is legal, since no size grows.
     strided_dims(steps, dims.as_slice())
 }
 
-/// Dims of these sizes, which have to be within bounds.
+/// Returns dims of the given sizes, or `TooLarge` if they aren't within `bounds`.
 pub(crate) fn legal_dims(bounds: Bounds, sizes: &[u64]) -> Result<Dims, ExprFault>
     requires { IsPossible bounds }
     ensures { result ≡ legal_dims bounds sizes.now }
@@ -129,7 +137,8 @@ pub(crate) fn legal_dims(bounds: Bounds, sizes: &[u64]) -> Result<Dims, ExprFaul
     }
 }
 
-/// Each size so many times. One past 64 bits is past the limit, too.
+/// Returns the dims in which each size is multiplied by its count. A product that overflows 64 bits
+/// is `TooLarge`.
 fn repeated_dims(bounds: Bounds, counts: &[u64], sizes: &[u64]) -> Result<Dims, ExprFault>
     requires bounds { IsPossible bounds }
     requires same { length counts.now ≡ length sizes.now }
@@ -146,7 +155,7 @@ fn repeated_dims(bounds: Bounds, counts: &[u64], sizes: &[u64]) -> Result<Dims, 
     legal_dims(bounds, repeated.as_slice())
 }
 
-/// Each size over its step, rounded up.
+/// Returns the dims in which each size is divided by its step and rounded up.
 fn strided_dims(steps: &[u64], sizes: &[u64]) -> Result<Dims, ExprFault>
     requires same { length steps.now ≡ length sizes.now }
     requires few { length sizes.now ≤ highest_rank }
@@ -160,7 +169,7 @@ fn strided_dims(steps: &[u64], sizes: &[u64]) -> Result<Dims, ExprFault>
     legal_dims(WIDEST, strided.as_slice())
 }
 
-/// The sizes in another order.
+/// Returns the dims of the axes in `order`.
 pub(crate) fn shuffled_dims(order: &[u64], sizes: &[u64]) -> Result<Dims, ExprFault>
     requires few { length order.now ≤ highest_rank }
     requires axes { (k : ℕ) → k < length order.now
@@ -170,7 +179,8 @@ pub(crate) fn shuffled_dims(order: &[u64], sizes: &[u64]) -> Result<Dims, ExprFa
     legal_dims(WIDEST, shuffled(order, sizes).as_slice())
 }
 
-/// Of a number for each axis those of the axes in a list.
+/// Returns the numbers of the axes in `order`, given a number for each axis: entry k is
+/// `numbers[order[k]]`.
 pub fn shuffled(order: &[u64], numbers: &[u64]) -> PerAxis
     requires few { length order.now ≤ highest_rank }
     requires axes { (k : ℕ) → k < length order.now
@@ -184,7 +194,7 @@ pub fn shuffled(order: &[u64], numbers: &[u64]) -> PerAxis
     shuffled
 }
 
-/// The sizes but that of one axis.
+/// Returns the dims without one axis.
 pub(crate) fn dims_without(axis: usize, sizes: &[u64]) -> Result<Dims, ExprFault>
     requires axis { axis < length sizes.now }
     requires few { length sizes.now ≤ highest_rank }
@@ -196,7 +206,7 @@ pub(crate) fn dims_without(axis: usize, sizes: &[u64]) -> Result<Dims, ExprFault
     legal_dims(WIDEST, others.as_slice())
 }
 
-/// Appends numbers.
+/// Appends numbers. At most `MAX_RANK` fit.
 pub fn extend(numbers: &mut PerAxis, more: &[u64])
     requires { length numbers.old.items + length more.now ≤ highest_rank }
     ensures { numbers.new.items ≡ numbers.old.items ++ more.now }
@@ -206,7 +216,7 @@ pub fn extend(numbers: &mut PerAxis, more: &[u64])
     }
 }
 
-/// Whether none is 0.
+/// Whether no count is 0.
 fn none_is_zero(counts: &[u64]) -> bool
     ensures { result ≡ none_is_zero counts.now }
 {
@@ -216,7 +226,7 @@ fn none_is_zero(counts: &[u64]) -> bool
     }
 }
 
-/// Whether each offset and its extent stay within the dimension.
+/// Whether each offset plus its extent is at most the size of its axis.
 fn fit_within(sizes: &[u64], offsets: &[u64], extents: &[u64]) -> bool
     ensures { result ≡ fit_within sizes.now offsets.now extents.now }
 {
@@ -243,7 +253,7 @@ pub(crate) fn is_among(number: u64, list: &[u64]) -> bool
     }
 }
 
-/// Whether all numbers below one are in a list.
+/// Whether all numbers below `limit` are in a list.
 fn has_all_below(limit: u64, list: &[u64]) -> bool
     ensures { result ≡ has_all_below limit list.now }
 {

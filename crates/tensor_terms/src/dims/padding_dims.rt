@@ -1,4 +1,4 @@
-//! The result dims of pads.
+//! The result dims of pads. A change touches `specs/Padding`.
 
 ghost use Rattle.std.specs.Prelude.{◌≡◌, ◌≤◌, ◌<◌, ◌+◌, length, Ok, IsOk, IfSome, IsNone};
 ghost use Rattle.tensor_shape.specs.Legal.{highest_rank, most_elements, IsPossible};
@@ -9,7 +9,7 @@ use crate::dims::movement_dims::legal_dims;
 use crate::fault::ExprFault;
 use tensor_shape::{Bounds, Dims, PerAxis};
 
-/// The result dims of a pad, within bounds, or the first of its own faults.
+/// Returns the result dims of a pad within `bounds`, or the fault of the first check that fails.
 pub(crate) fn pad_dims(bounds: Bounds, pairs: &[(u64, u64)], dims: &Dims) -> Result<Dims, ExprFault>
     requires { IsPossible bounds }
     ensures { result ≡ pad_dims bounds pairs.now dims.now }
@@ -20,7 +20,8 @@ pub(crate) fn pad_dims(bounds: Bounds, pairs: &[(u64, u64)], dims: &Dims) -> Res
     padded_dims(bounds, pairs, dims.as_slice())
 }
 
-/// Each size, and what stands before and behind it. One past 64 bits is past the limit, too.
+/// Returns the dims in which each size has the zeroes before and after it added. A sum that
+/// overflows 64 bits is `TooLarge`.
 fn padded_dims(bounds: Bounds, pairs: &[(u64, u64)], sizes: &[u64]) -> Result<Dims, ExprFault>
     requires bounds { IsPossible bounds }
     requires same { length pairs.now ≡ length sizes.now }
@@ -38,7 +39,7 @@ fn padded_dims(bounds: Bounds, pairs: &[(u64, u64)], sizes: &[u64]) -> Result<Di
     legal_dims(bounds, padded.as_slice())
 }
 
-/// The sum of three numbers, where it is within 64 bits.
+/// Returns the sum of three numbers; `None` if it overflows 64 bits.
 fn sum(before: u64, size: u64, behind: u64) -> Option<u64>
     ensures some { IfSome result (λ n. n ≡ before + size + behind) }
     ensures none { IsNone result → most_elements < before + size + behind }

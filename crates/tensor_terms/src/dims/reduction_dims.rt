@@ -1,4 +1,5 @@
-//! The result dims of reductions.
+//! The result dims of reductions, and the check of a list of axes. A change touches
+//! `specs/Reduction`.
 
 ghost use Rattle.std.specs.Prelude.{◌≡◌};
 ghost use Rattle.tensor_terms.specs.Reduction.{are_axes, reduced_dims};
@@ -8,7 +9,8 @@ use crate::fault::ExprFault;
 use crate::index::index_parts::other_dims;
 use tensor_shape::Dims;
 
-/// The result dims of a reduction over axes of an operand of these dims, or its own fault.
+/// Returns the result dims of a reduction over axes of an operand of these dims, or the fault of
+/// its check.
 pub fn reduced_dims(axes: &[u64], dims: &Dims) -> Result<Dims, ExprFault>
     ensures { result ≡ reduced_dims axes.now dims.now }
 {
@@ -19,7 +21,7 @@ pub fn reduced_dims(axes: &[u64], dims: &Dims) -> Result<Dims, ExprFault>
     }
 }
 
-/// Whether all of these axes are below the rank, and none stands twice.
+/// Whether each axis is below the rank and no axis appears twice.
 pub(crate) fn are_axes(rank: u64, axes: &[u64]) -> bool
     ensures { result ≡ are_axes rank axes.now }
 {

@@ -1,4 +1,5 @@
-//! The result dims of expressions, or their first faults.
+//! The result dims of expressions, or their first faults. A change of the order of the checks
+//! changes the first fault, which `specs/Result` fixes.
 
 ghost use Rattle.std.specs.Prelude.{◌≡◌, ◌<◌, ◌≤◌, List, ℕ, length, Ok, IsTrue, IfOk, map};
 ghost use Rattle.tensor_shape.specs.Legal.{IsPossible};
@@ -23,9 +24,9 @@ use crate::tensor::inputs::Inputs;
 use tensor_shape::{Bounds, Dims};
 
 impl Expr {
-    /// The dims of the result, or the first fault: operands are looked at from the left, each
-    /// wholly, before the operation's own checks. A result that is not within the inputs' bounds
-    /// is too large. Takes no memory.
+    /// Returns the dims of the result, or the first fault. Operands are checked from the left, each
+    /// completely, before the operation itself. A result that is not within the bounds of the
+    /// inputs is `TooLarge`. Allocates nothing.
     pub fn dims(&self, inputs: &Inputs) -> Result<Dims, ExprFault>
         requires { IsTrue (has_inputs (term_of self.now) (length inputs.now.tensors)) }
         ensures dims { result ≡ dims_of inputs.now.bounds (term_of self.now) inputs.now.tensors }
@@ -35,7 +36,8 @@ impl Expr {
         dims_within(inputs.bounds(), self, inputs)
     }
 
-    /// The same within bounds, where the dims of the operands are known. Looks at no operand.
+    /// Returns the dims of the result within `bounds`, given the dims of the operands, or the first
+    /// fault of the operation itself. Doesn't visit the operands.
     pub fn dims_over(
         &self,
         bounds: Bounds,
@@ -54,8 +56,9 @@ impl Expr {
         }
     }
 
-    /// The same of an operation, whatever tensors its operands have these dims over. It is never
-    /// called of an input, which has no operands.
+    /// Returns the dims of the result within `bounds`, given only the dims of the operands, or the
+    /// first fault of the operation itself. The expression must not be an input, so `operands`
+    /// isn't empty.
     pub fn dims_by(&self, bounds: Bounds, operands: &[Dims]) -> Result<Dims, ExprFault>
         requires bounds { IsPossible bounds }
         requires some { 0 < length operands.now }
@@ -78,7 +81,7 @@ impl Expr {
     }
 }
 
-/// The dims of an expression, within bounds, or its first fault.
+/// Returns the dims of an expression within `bounds`, or its first fault.
 pub(crate) fn dims_within(bounds: Bounds, expr: &Expr, inputs: &Inputs) -> Result<Dims, ExprFault>
     requires bounds { IsPossible bounds }
     requires inputs { IsTrue (has_inputs (term_of expr.now) (length inputs.now.tensors)) }
@@ -104,7 +107,8 @@ pub(crate) fn dims_within(bounds: Bounds, expr: &Expr, inputs: &Inputs) -> Resul
     }
 }
 
-/// The dims of an operation on one tensor, within bounds, or the first of its own faults.
+/// Returns the dims of an operation on one tensor within `bounds`, or the fault of its first check
+/// that fails.
 fn unary_dims(bounds: Bounds, operation: Unary<'_>, operand: &Dims) -> Result<Dims, ExprFault>
     requires { IsPossible bounds }
     ensures { result ≡ unary_dims bounds (unary_at operation.entry) operand.now }
@@ -118,7 +122,8 @@ fn unary_dims(bounds: Bounds, operation: Unary<'_>, operand: &Dims) -> Result<Di
     }
 }
 
-/// The dims of an operation on two tensors, within bounds, or the first of its own faults.
+/// Returns the dims of an operation on two tensors within `bounds`, or the fault of its first check
+/// that fails.
 fn binary_dims(
     bounds: Bounds,
     operation: Binary<'_>,
@@ -137,7 +142,7 @@ fn binary_dims(
     }
 }
 
-/// The dims of an operation on three tensors, or the first of its own faults.
+/// Returns the dims of an operation on three tensors, or the fault of its first check that fails.
 fn ternary_dims(
     operation: Ternary,
     first: &Dims,
@@ -154,7 +159,7 @@ fn ternary_dims(
     }
 }
 
-/// Dims that have to be equal.
+/// Returns dims that two operands must have in common, or `ShapeMismatch`.
 fn equal_dims(first: &Dims, second: &Dims) -> Result<Dims, ExprFault>
     ensures { result ≡ equal_dims first.now second.now }
 {

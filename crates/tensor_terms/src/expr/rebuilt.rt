@@ -1,4 +1,5 @@
-//! The operation of an expression, over other operands.
+//! The operation of an expression, over other operands. tensor_reduce replaces parts of an
+//! expression through these calls; a new variant of `Node` needs an arm here.
 
 ghost use Rattle.std.specs.Prelude.{◌≡◌, IfOk};
 ghost use Rattle.tensor_terms.specs.Term.{unary, binary, ternary, movement};
@@ -9,7 +10,7 @@ use crate::expr::node::{Binary, Movement, Ternary, Unary};
 use std::alloc::{AllocError, Global};
 
 impl Unary<'_> {
-    /// The operation over this operand. Its arguments are copied.
+    /// Returns this operation over another operand. Copies the arguments.
     pub fn over(self, alloc: Global, operand: Expr) -> Result<Expr, AllocError>
         ensures { IfOk result (λ e. term_of e ≡ unary (unary_at self.entry) (term_of operand)) }
     {
@@ -28,7 +29,7 @@ impl Unary<'_> {
 }
 
 impl Binary<'_> {
-    /// The operation over these operands. Its arguments are copied.
+    /// Returns this operation over other operands. Copies the arguments.
     pub fn over(self, alloc: Global, first: Expr, second: Expr) -> Result<Expr, AllocError>
         ensures { IfOk result (λ e. term_of e
             ≡ binary (binary_at self.entry) (term_of first) (term_of second)) }
@@ -46,7 +47,7 @@ impl Binary<'_> {
 }
 
 impl Ternary {
-    /// The operation over these operands.
+    /// Returns this operation over other operands.
     pub fn over(
         self,
         alloc: Global,
@@ -66,7 +67,7 @@ impl Ternary {
     }
 }
 
-/// The movement of this operand.
+/// Returns the movement of an operand. Copies the arguments.
 fn moved(alloc: Global, moving: Movement<'_>, operand: Box<Expr>) -> Result<Expr, AllocError>
     ensures { IfOk result (λ e. term_of e
         ≡ unary (movement (movement_at moving.entry)) (term_of operand.value)) }

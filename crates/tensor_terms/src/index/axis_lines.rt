@@ -1,4 +1,5 @@
-//! Where the lines along an axis lie.
+//! Where the lines along an axis of dims lie. tensor_ops evaluates operations along an axis by
+//! them; a change touches `specs/AxisLines`.
 
 ghost use Rattle.std.specs.Prelude.{◌≡◌, ◌<◌, ◌≤◌, length};
 ghost use Rattle.tensor_scans.specs.Places.{line_values};
@@ -9,7 +10,7 @@ use crate::index::merged::span;
 use tensor_scans::Lines;
 use tensor_shape::Dims;
 
-/// The lines along an axis of dims.
+/// Returns the lines along an axis of dims.
 pub fn lines_along(axis: u64, dims: &Dims) -> Lines
     requires { axis < length dims.now }
     ensures along { AreLinesAlong axis dims.now result }

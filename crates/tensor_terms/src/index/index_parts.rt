@@ -1,4 +1,6 @@
-//! Index lists in two parts: the numbers at some of the axes, and those at the others.
+//! Index lists in two parts: the indices at some of the axes, and the indices at the other axes.
+//! Reductions and contractions in tensor_ops go by these parts too; a change touches
+//! `specs/Merged`.
 
 ghost use Rattle.std.specs.Prelude.{◌≡◌, ◌≤◌, ◌<◌, ◌++◌, length, true};
 ghost use Rattle.tensor_shape.specs.Index.{size_of, place, index_of};
@@ -12,7 +14,7 @@ use crate::index::merged::{among, others};
 use crate::index::moved_index::moved_place;
 use tensor_shape::{Dims, PerAxis};
 
-/// Which axes of so many are among these, in order.
+/// Returns the axes below `rank` that are in `axes`, in ascending order.
 pub fn all_among(axes: &[u64], rank: usize) -> PerAxis
     requires { rank ≤ highest_rank }
     ensures { result.items ≡ among axes.now rank }
@@ -20,7 +22,7 @@ pub fn all_among(axes: &[u64], rank: usize) -> PerAxis
     among(axes, 0, rank as u64)
 }
 
-/// Which aren't.
+/// Returns the axes below `rank` that are not in `axes`, in ascending order.
 fn all_others(axes: &[u64], rank: usize) -> PerAxis
     requires { rank ≤ highest_rank }
     ensures { result.items ≡ others axes.now rank }
@@ -28,7 +30,8 @@ fn all_others(axes: &[u64], rank: usize) -> PerAxis
     others(axes, 0, rank as u64)
 }
 
-/// The dims of these axes. They are legal, since there are no other factors.
+/// Returns the dims of these axes, in the order of `axes`. They are legal, since they have no other
+/// factors.
 pub fn dims_at(axes: &[u64], dims: &Dims) -> Dims
     requires { are_axes (length dims.now) axes.now ≡ true }
     ensures { result ≡ dims_at axes.now dims.now }
@@ -36,15 +39,16 @@ pub fn dims_at(axes: &[u64], dims: &Dims) -> Dims
     shuffled_dims(axes, dims.as_slice()).unwrap()
 }
 
-/// The dims of the other axes.
+/// Returns the dims of the axes that are not in `axes`, in ascending order.
 pub fn other_dims(axes: &[u64], dims: &Dims) -> Dims
     ensures { result ≡ other_dims axes.now dims.now }
 {
     dims_at(all_others(axes, dims.rank()).as_slice(), dims)
 }
 
-/// The place in dims of an index list in two parts, from the place of its numbers at some axes and
-/// that of those at the others: what a shuffle reads that has these axes first.
+/// Returns the place in `dims` of an index list in two parts. `inner` is the place of its indices
+/// at `axes`, and `outer` is the place of its other indices. A shuffle that puts `axes` first reads
+/// this place too.
 pub(crate) fn merged_place(axes: &[u64], dims: &Dims, inner: u64, outer: u64) -> u64
     requires axes { are_axes (length dims.now) axes.now ≡ true }
     requires inner { inner < size_of (dims_at axes.now dims.now) }
@@ -64,7 +68,7 @@ pub(crate) fn merged_place(axes: &[u64], dims: &Dims, inner: u64, outer: u64) ->
     )
 }
 
-/// All axes of so many, these first.
+/// Returns all axes below `rank`: first `axes`, and then the others in ascending order.
 pub fn axes_first(axes: &[u64], rank: usize) -> PerAxis
     requires few { rank ≤ highest_rank }
     requires axes { are_axes rank axes.now ≡ true }

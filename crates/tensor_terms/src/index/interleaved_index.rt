@@ -1,4 +1,5 @@
-//! Where concatenations and pads read their operands.
+//! Where concatenations and pads read their operands. tensor_ops reads ranges of them by
+//! `turns_along`; a change touches `specs/Concatenation` and `specs/Padding`.
 
 ghost use Rattle.std.specs.Prelude.{◌≡◌, ◌<◌, ◌≤◌, ◌+◌, length, take, true, false};
 ghost use Rattle.std.specs.Prelude.{IsOk, IfSome, IsNone};
@@ -11,7 +12,8 @@ use crate::dims::padding_dims::pad_dims;
 use tensor_shape::{Dims, PerAxis, WIDEST};
 use tensor_values::Turns;
 
-/// The turns of a concatenation along an axis: the places of each operand along the axes up to it.
+/// Returns the turns of a concatenation along an axis. The places of each operand in a turn are the
+/// product of its sizes up to and including the axis.
 pub fn turns_along(axis: u64, first: &Dims, second: &Dims) -> Turns
     requires dims { IsOk (concatenated_dims widest axis first.now second.now) }
     requires some { 0 < size_of (joined_dims axis first.now second.now) }
@@ -24,7 +26,7 @@ pub fn turns_along(axis: u64, first: &Dims, second: &Dims) -> Turns
     }
 }
 
-/// How many places there are along the axes up to one.
+/// Returns the product of the sizes up to and including an axis.
 fn width_along(axis: usize, dims: &Dims) -> usize
     requires { axis < length dims.now }
     ensures { result ≡ size_of (take (axis + 1) dims.now) }
@@ -33,8 +35,8 @@ fn width_along(axis: usize, dims: &Dims) -> usize
     (dims.stride(axis) * sizes[axis]) as usize
 }
 
-/// The place of the operand, of these dims, that a pad reads for a place of the result, where it
-/// reads one.
+/// Returns the place of the operand that a pad reads for a place of the result; `None` if the
+/// result has a zero there. `dims` are the operand's dims.
 pub(crate) fn padded_place(pairs: &[(u64, u64)], dims: &Dims, linear: u64) -> Option<u64>
     requires dims { IsOk (pad_dims widest pairs.now dims.now) }
     requires below { linear < size_of (padded_dims pairs.now dims.now) }
@@ -52,7 +54,7 @@ pub(crate) fn padded_place(pairs: &[(u64, u64)], dims: &Dims, linear: u64) -> Op
     Some(dims.linear(read.as_slice()))
 }
 
-/// Each index less what stands before, where all of them are inside.
+/// Returns each index less the zeroes before it; `None` if an index is outside the operand.
 fn moved_back(pairs: &[(u64, u64)], sizes: &[u64], index: &[u64]) -> Option<PerAxis>
     requires sizes { length sizes.now ≡ length pairs.now }
     requires index { length index.now ≡ length pairs.now }

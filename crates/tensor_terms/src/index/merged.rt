@@ -1,4 +1,5 @@
-//! Which axes are among some and which are the others, in order, and how much they span.
+//! Which axes are in a list and which are not, in ascending order, and products of sizes.
+//! tensor_ops lays out its loops by these calls; a change touches `specs/Merged`.
 
 ghost use Rattle.std.specs.Prelude.{◌≡◌, ◌≤◌, ◌<◌, ◌-◌, ℕ, length, not, true, false};
 ghost use Rattle.std.specs.List.{filter, range_with_len};
@@ -10,7 +11,7 @@ ghost use Rattle.tensor_terms.specs.Merged.{dims_at};
 use crate::dims::movement_dims::is_among;
 use tensor_shape::PerAxis;
 
-/// The axes from one to before a last one that are among these.
+/// Returns the axes in `[from, to)` that are in `axes`, in ascending order.
 pub fn among(axes: &[u64], from: u64, to: u64) -> PerAxis
     requires order { from ≤ to }
     requires few { to ≤ highest_rank }
@@ -25,7 +26,7 @@ pub fn among(axes: &[u64], from: u64, to: u64) -> PerAxis
     found
 }
 
-/// The axes from one to before a last one that aren't among these.
+/// Returns the axes in `[from, to)` that are not in `axes`, in ascending order.
 pub fn others(axes: &[u64], from: u64, to: u64) -> PerAxis
     requires order { from ≤ to }
     requires few { to ≤ highest_rank }
@@ -41,7 +42,7 @@ pub fn others(axes: &[u64], from: u64, to: u64) -> PerAxis
     found
 }
 
-/// The first axis from one on that is among these, or the end.
+/// Returns the first axis in `[from, to)` that is in `axes`; `to` if there is none.
 pub fn next_among(axes: &[u64], from: u64, to: u64) -> u64
     requires { from ≤ to }
     ensures order { from ≤ result }
@@ -57,7 +58,7 @@ pub fn next_among(axes: &[u64], from: u64, to: u64) -> u64
     to
 }
 
-/// The first axis from one on that isn't among these, or the end.
+/// Returns the first axis in `[from, to)` that is not in `axes`; `to` if there is none.
 pub fn next_other(axes: &[u64], from: u64, to: u64) -> u64
     requires { from ≤ to }
     ensures order { from ≤ result }
@@ -73,7 +74,7 @@ pub fn next_other(axes: &[u64], from: u64, to: u64) -> u64
     to
 }
 
-/// How many elements the axes from one to before a last one span.
+/// Returns the product of the sizes of the axes in `[from, to)`.
 pub fn span(sizes: &[u64], from: usize, to: usize) -> usize
     requires legal { IsLegal sizes.now }
     requires order { from ≤ to }

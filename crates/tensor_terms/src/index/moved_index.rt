@@ -1,4 +1,5 @@
-//! Where a movement reads its operand.
+//! Where a movement reads its operand. A change touches `specs/Movement`; tensor_views proves its
+//! views against that definition.
 
 ghost use Rattle.std.specs.Prelude.{◌≡◌, ◌≤◌, ◌<◌, ◌+◌, ◌-◌, ◌*◌, ◌^◌, ℕ, List, [], length, map};
 ghost use Rattle.std.specs.Prelude.{slice_index, insert, Ok, IsOk, if◌then◌else◌};
@@ -13,7 +14,8 @@ use crate::dims::movement_dims::{extend, moved_dims};
 use crate::expr::node::Movement;
 use tensor_shape::{Dims, PerAxis, WIDEST};
 
-/// The place of the operand, of these dims, that is read for a place of the result.
+/// Returns the place of the operand that a movement reads for a place of the result. `dims` are
+/// the operand's dims.
 pub(crate) fn moved_place(movement: Movement<'_>, dims: &Dims, linear: u64) -> u64
     requires dims { IsOk (moved_dims widest (movement_at movement) dims.now) }
     requires below { linear
@@ -29,7 +31,8 @@ pub(crate) fn moved_place(movement: Movement<'_>, dims: &Dims, linear: u64) -> u
     dims.linear(read.as_slice())
 }
 
-/// The index list of the operand that is read for one of the result, of this shape.
+/// Returns the index list of the operand that a movement reads for an index list of the result,
+/// whose dims are `shape`.
 fn moved(movement: Movement<'_>, dims: &Dims, shape: &Dims, index: &[u64]) -> PerAxis
     requires shape { moved_dims widest (movement_at movement) dims.now ≡ Ok shape.now }
     requires index { IsIndexOf shape.now index.now }
@@ -47,7 +50,7 @@ fn moved(movement: Movement<'_>, dims: &Dims, shape: &Dims, index: &[u64]) -> Pe
     }
 }
 
-/// Each index modulo its size.
+/// Returns each index modulo the size of its axis.
 fn wrapped(sizes: &[u64], index: &[u64]) -> PerAxis
     requires same { length index.now ≡ length sizes.now }
     requires few { length sizes.now ≤ highest_rank }
@@ -61,7 +64,7 @@ fn wrapped(sizes: &[u64], index: &[u64]) -> PerAxis
     read
 }
 
-/// Each index, and its offset on top.
+/// Returns each index plus its offset.
 fn offset_by(offsets: &[u64], index: &[u64]) -> PerAxis
     requires same { length index.now ≡ length offsets.now }
     requires few { length offsets.now ≤ highest_rank }
@@ -76,7 +79,7 @@ fn offset_by(offsets: &[u64], index: &[u64]) -> PerAxis
     read
 }
 
-/// Each index times its step.
+/// Returns each index times its step.
 fn scaled(steps: &[u64], index: &[u64]) -> PerAxis
     requires same { length index.now ≡ length steps.now }
     requires few { length steps.now ≤ highest_rank }
@@ -91,7 +94,7 @@ fn scaled(steps: &[u64], index: &[u64]) -> PerAxis
     read
 }
 
-/// An index list with each index at the axis that is named for it.
+/// Returns an index list with `index[k]` at axis `order[k]`, and 0 at all other axes.
 fn scattered(order: &[u64], index: &[u64], sizes: &[u64]) -> PerAxis
     requires same { length index.now ≡ length order.now }
     requires few { length sizes.now ≤ highest_rank }
@@ -105,7 +108,7 @@ fn scattered(order: &[u64], index: &[u64], sizes: &[u64]) -> PerAxis
     read
 }
 
-/// The index list with one more index at an axis.
+/// Returns the index list with one more index, at the given axis.
 fn inserted(index: &[u64], axis: usize, offset: u64) -> PerAxis
     requires axis { axis ≤ length index.now }
     requires few { length index.now < highest_rank }
@@ -117,7 +120,7 @@ fn inserted(index: &[u64], axis: usize, offset: u64) -> PerAxis
     read
 }
 
-/// Each index, or where its axis is flagged what is left above it.
+/// Returns each index, mirrored at the axes whose flag is set.
 fn mirrored(flags: &[bool], sizes: &[u64], index: &[u64]) -> PerAxis
     requires flags { length flags.now ≡ length sizes.now }
     requires same { length index.now ≡ length sizes.now }
@@ -133,7 +136,7 @@ fn mirrored(flags: &[bool], sizes: &[u64], index: &[u64]) -> PerAxis
     read
 }
 
-/// An index, or where the axis is flagged what is left above it.
+/// Returns an index, mirrored if `flag` is set: `size - 1 - index`.
 fn swapped(flag: bool, size: u64, index: u64) -> u64
     requires { index < size }
     ensures { result ≡ (if flag then size - 1 - index else index) }

@@ -1,4 +1,4 @@
-//! The places that lie under a kernel.
+//! The places of an operand that lie under a kernel. A change touches `specs/Convolution`.
 
 ghost use Rattle.std.specs.Prelude.{◌≡◌, ◌<◌, ◌≤◌, ◌+◌, ◌^◌, ℕ, length, slice_index, Ok};
 ghost use Rattle.tensor_shape.specs.Index.{size_of, place, index_of};
@@ -8,7 +8,8 @@ ghost use Rattle.tensor_terms.specs.Convolution.{convolved_dims, window_index};
 use crate::dims::movement_dims::extend;
 use tensor_shape::{Dims, PerAxis};
 
-/// The place in dims of what lies under a place of a kernel, for a place of the result dims.
+/// Returns the place of the operand that lies under place `inner` of the kernel, if the kernel
+/// stands at the position of place `outer` of the result. `dims` are the operand's dims.
 pub(crate) fn window_place(
     axes: &[u64],
     dims: &Dims,
@@ -31,7 +32,7 @@ pub(crate) fn window_place(
     dims.linear(window_index(axes, top.as_slice(), index.as_slice()).as_slice())
 }
 
-/// An index list, with each number of another on top at its axis.
+/// Returns the index list with `top[k]` added at axis `axes[k]`.
 fn window_index(axes: &[u64], top: &[u64], index: &[u64]) -> PerAxis
     requires few { length index.now ≤ highest_rank }
     requires same { length top.now ≡ length axes.now }

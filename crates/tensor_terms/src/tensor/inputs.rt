@@ -1,4 +1,5 @@
-//! The inputs of an expression.
+//! The inputs of an expression: a list of tensors, and the bounds of results over them. A change of
+//! the bounds touches what a request may ask for, which expr_reader decides.
 
 ghost use Rattle.std.specs.Prelude.{◌≡◌, ◌<◌, ◌≤◌, ◌-◌, ◌^◌, ◌∷◌, [], ◌++◌, ◌↔◌, ◌⊎◌, length};
 ghost use Rattle.std.specs.Prelude.{IsTrue, IfOk};
@@ -13,14 +14,16 @@ use std::alloc::{AllocError, Global};
 use std::marker::Model;
 use tensor_shape::{Bounds, Dims, WIDEST};
 
-/// The highest rank of an expression over inputs, where nobody names another one.
+/// The highest rank of results over inputs that [`Inputs::new`] makes.
 const RANK_LIMIT: u32 = 6;
 
-/// A list of tensors, each known by its number from 0, and how large the results of an expression
-/// over them may get.
+/// A list of tensors, numbered from 0, and the bounds of the results of expressions over them. Each
+/// tensor is itself within the bounds.
 #[derive(Drop)]
 pub struct Inputs<'a> {
+    /// The tensors in order of their numbers.
     tensors: Vec<Tensor<'a>>,
+    /// The bounds of results.
     bounds: Bounds,
 }
 
@@ -38,8 +41,8 @@ impl<'a> Model for Inputs<'a> {
 }
 
 impl<'a> Inputs<'a> {
-    /// These tensors, numbered in their order. Results of expressions over them have rank 6 at most,
-    /// and as many elements as those of a text may have.
+    /// Returns inputs from these tensors, in order. Results have at most rank 6 and at most
+    /// `TEXT_ELEMENTS` elements.
     pub fn new(tensors: Vec<Tensor<'a>>) -> Inputs<'a>
         requires few { vec_len tensors < 2 ^ 32 }
         requires bounds { AreWithin (text_bounds 6) tensors.items }
@@ -49,8 +52,8 @@ impl<'a> Inputs<'a> {
         Inputs::with_rank(tensors, RANK_LIMIT)
     }
 
-    /// These tensors, numbered in their order. Results of expressions over them have at most this
-    /// rank, which is 6 or 8, and as many elements as those of a text may have.
+    /// Returns inputs from these tensors, in order. Results have at most the given rank, which is 6
+    /// or 8, and at most `TEXT_ELEMENTS` elements.
     pub fn with_rank(tensors: Vec<Tensor<'a>>, limit: u32) -> Inputs<'a>
         requires few { vec_len tensors < 2 ^ 32 }
         requires limit { (limit ≡ 6) ⊎ (limit ≡ 8) }
@@ -61,8 +64,7 @@ impl<'a> Inputs<'a> {
         Inputs::with_bounds(tensors, Bounds::of_text(limit as usize))
     }
 
-    /// These tensors, numbered in their order. Results of expressions over them are within these
-    /// bounds.
+    /// Returns inputs from these tensors, in order. Results are within `bounds`.
     pub fn with_bounds(tensors: Vec<Tensor<'a>>, bounds: Bounds) -> Inputs<'a>
         requires few { vec_len tensors < 2 ^ 32 }
         requires limit { IsPossible bounds }
@@ -73,7 +75,7 @@ impl<'a> Inputs<'a> {
         Inputs { tensors, bounds }
     }
 
-    /// The highest rank that a result of an expression over them may have.
+    /// Returns the highest rank of results.
     pub fn rank_limit(&self) -> u32
         ensures value { result ≡ self.now.bounds.rank }
         ensures limit { self.now.bounds.rank ≤ highest_rank }
@@ -81,7 +83,7 @@ impl<'a> Inputs<'a> {
         self.bounds.rank as u32
     }
 
-    /// How large a result of an expression over them may get.
+    /// Returns the bounds of results.
     pub fn bounds(&self) -> Bounds
         ensures value { result ≡ self.now.bounds }
         ensures limit { IsPossible self.now.bounds }
@@ -89,21 +91,21 @@ impl<'a> Inputs<'a> {
         self.bounds
     }
 
-    /// How many there are.
+    /// Returns the number of inputs.
     pub fn len(&self) -> u32
         ensures { result ≡ length self.now.tensors }
     {
         self.tensors.len() as u32
     }
 
-    /// Whether there are none.
+    /// Whether there are no inputs.
     pub fn is_empty(&self) -> bool
         ensures { IsTrue result ↔ (length self.now.tensors ≡ 0) }
     {
         self.tensors.is_empty()
     }
 
-    /// The tensor of a number.
+    /// Returns the tensor with this number.
     pub fn get(&self, number: u32) -> &Tensor<'a>
         requires { number < length self.now.tensors }
         ensures { result.now ≡ input_of self.now.tensors number }
@@ -111,7 +113,8 @@ impl<'a> Inputs<'a> {
         &self.tensors[number as usize]
     }
 
-    /// The same tensors, whose values are lent. Takes memory for the list of them alone.
+    /// Returns inputs that borrow the values of these tensors, with equal bounds. Allocates only
+    /// the list of tensors; fails if that allocation fails.
     pub fn lent(&self, alloc: Global) -> Result<Inputs<'_>, AllocError>
         ensures { IfOk result (λ r. r ≡ self.now) }
     {
@@ -125,7 +128,7 @@ impl<'a> Inputs<'a> {
         })
     }
 
-    /// Appends a tensor, whose number is then the old length. Its dims are within the bounds.
+    /// Appends a tensor, whose number is the old length. If the allocation fails, nothing changes.
     pub fn push(&mut self, tensor: Tensor<'a>) -> Result<(), AllocError>
         requires few { length self.old.tensors < 2 ^ 32 - 1 }
         requires bounds { IsWithin self.old.bounds tensor.dims }
@@ -137,7 +140,7 @@ impl<'a> Inputs<'a> {
         Ok(())
     }
 
-    /// The same tensors, over which results get as large as any may.
+    /// Returns the inputs with the widest bounds that any dims may have.
     pub fn widened(self) -> Inputs<'a>
         ensures tensors { result.tensors ≡ self.entry.tensors }
         ensures limit { result.bounds ≡ widest }
@@ -148,7 +151,8 @@ impl<'a> Inputs<'a> {
         }
     }
 
-    /// Frees a tensor: one value, a 0 that takes no memory, stands in its place.
+    /// Frees the values of a tensor. Its number then names a tensor of rank 0 with the value 0,
+    /// which needs no allocation.
     pub fn free(&mut self, number: u32)
         requires { number < length self.old.tensors }
         ensures tensors { self.new.tensors ≡ slice_set self.old.tensors number freed }
@@ -158,7 +162,7 @@ impl<'a> Inputs<'a> {
     }
 }
 
-/// What stands in the place of a freed tensor.
+/// Returns the tensor that stands in the place of a freed tensor.
 fn freed<'a>() -> Tensor<'a>
     ensures { result ≡ freed }
 {

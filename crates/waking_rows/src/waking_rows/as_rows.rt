@@ -1,4 +1,5 @@
-//! Rows that wake as `Rows`. The calls tell of their claims and credits, too.
+//! `WakingRows` as `Rows`. Each contract here says more than the trait's: which claim the call
+//! made, and what it did with credits.
 ghost use Rattle.std.specs.Prelude.{◌≡◌, ◌<◌, ◌≤◌, ◌+◌, ◌++◌, length, option_to_list};
 ghost use Rattle.std.specs.Prelude.{IfErr, IsErr, IsNone};
 ghost use Rattle.run_queue.specs.Account.{AddsIfOk};

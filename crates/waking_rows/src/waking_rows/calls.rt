@@ -1,4 +1,5 @@
-//! A job goes in with a ticket, and somebody is notified; it comes out, and the ticket goes back.
+//! The puts and takes. A put publishes before it claims its slot, and notifies afterwards; the laws
+//! of the crate rest on this order.
 ghost use Rattle.std.specs.Prelude.{◌≡◌, ◌<◌, ◌+◌, ◌++◌, option_to_list};
 ghost use Rattle.std.specs.Prelude.{IfErr, IsErr, IfSome, IsNone, IfNone, MatchResult};
 ghost use Rattle.event_count.specs.Seats.{card_of, seat_id, IsIdle};
@@ -20,8 +21,8 @@ use std::alloc::Allocator;
 use std::sync::Wait;
 
 impl<J, A: Allocator> WakingRows<J, A> {
-    /// Puts a job in at the front of the seat's own row, and wakes one of those that wait; or gives
-    /// the job back.
+    /// Puts a job in at the front of the seat's own row, and notifies one waiter. Returns the job
+    /// if the seat finds no credit, or if the element is not empty.
     pub fn push_front<R: Wait>(&self, rt: &R, seat: &mut WakingSeat<J>, job: J) -> Result<(), J>
         requires ours { IsSeatOf self.now seat.old }
         requires owner { number_by seat.old < rows_in self.now }
@@ -45,8 +46,8 @@ impl<J, A: Allocator> WakingRows<J, A> {
         self.announce(rt, &mut seat.seat, laid)
     }
 
-    /// Puts a job in before the back of a row, and wakes one of those that wait; or gives the job
-    /// back.
+    /// Puts a job in before the back of a row, and notifies one waiter. Returns the job if the seat
+    /// finds no credit, or if the element is not empty.
     pub fn push_back<R: Wait>(
         &self,
         rt: &R,
@@ -74,7 +75,8 @@ impl<J, A: Allocator> WakingRows<J, A> {
         self.announce(rt, &mut seat.seat, laid)
     }
 
-    /// Takes the job before the front of the seat's own row, where there is one.
+    /// Takes the job before the front of the seat's own row. None if the element there is not
+    /// ready.
     pub fn pop_front(&self, seat: &mut WakingSeat<J>) -> Option<J>
         requires ours { IsSeatOf self.now seat.old }
         requires owner { number_by seat.old < rows_in self.now }
@@ -93,7 +95,7 @@ impl<J, A: Allocator> WakingRows<J, A> {
         Some(self.collect(&mut seat.seat, it))
     }
 
-    /// Takes the job at the back of a row, where there is one.
+    /// Takes the job at the back of a row. None if the element there is not ready.
     pub fn pop_back<R: Wait>(&self, rt: &R, seat: &mut WakingSeat<J>, row: u16) -> Option<J>
         requires ours { IsSeatOf self.now seat.old }
         requires row { row < rows_in self.now }
@@ -110,8 +112,8 @@ impl<J, A: Allocator> WakingRows<J, A> {
         Some(self.collect(&mut seat.seat, it))
     }
 
-    /// Notifies one of a job that was published, and then laid into its slot or not. One that was
-    /// not is handed back, and its ticket goes back first.
+    /// Notifies one waiter, after a job was published. If the job could not be laid into its slot,
+    /// gives its ticket back first, and returns the job.
     fn announce<R: Wait>(
         &self,
         rt: &R,
@@ -138,7 +140,8 @@ impl<J, A: Allocator> WakingRows<J, A> {
         answer
     }
 
-    /// The job of a take, whose ticket goes back, and the surplus of credits into the bank.
+    /// Gives the ticket of a taken job back, puts the seat's surplus of credits into the bank, and
+    /// returns the job.
     fn collect(&self, seat: &mut Seat, it: Ticketed<J>) -> J
         requires ours { seat_id seat.old ≡ count_in self.now }
         requires idle { IsIdle seat.old }
@@ -153,7 +156,7 @@ impl<J, A: Allocator> WakingRows<J, A> {
         job
     }
 
-    /// The job, whose ticket goes back.
+    /// Gives the ticket of a job back, and returns the job.
     fn redeem(&self, seat: &mut Seat, it: Ticketed<J>) -> J
         requires ours { seat_id seat.old ≡ count_in self.now }
         requires idle { IsIdle seat.old }

@@ -1,4 +1,5 @@
-//! Credits flow back: a seat keeps few, the others are in the bank of the count, for who has none.
+//! Credits flow back: a seat keeps few credits, and puts the others into the bank of the count, for
+//! seats without credits. `specs/Credits.antt` repeats the two numbers.
 ghost use Rattle.std.specs.Prelude.{◌≡◌};
 ghost use Rattle.event_count.specs.Seats.{card_of, seat_id, IsIdle};
 ghost use Rattle.event_count.specs.Rows.Seats.{IsSilent};
@@ -9,19 +10,20 @@ use crate::waking_rows::WakingRows;
 use event_count::Seat;
 use std::alloc::Allocator;
 
-/// A seat that comes to more credits than these puts the rest into the bank, and keeps `KEPT`. The
-/// two are apart, so that who puts and takes in turn seldom goes there.
+/// A seat with more credits than this puts all but `KEPT` into the bank. The two numbers are apart,
+/// so that a seat that puts and takes in turn seldom goes to the bank.
 ///
-/// They are so few that there are more credits than full rows take and all other seats keep, in what
-/// `on_one_count` opens: at 256 workers full rows take 262,144 of 1,048,576, each seat that has taken
-/// a job keeps 1,024 at most, and those that have yet to begin with half of all together.
+/// `on_one_count` opens more credits than full rows and all other seats can have. With 256 workers,
+/// full rows have 262,144 of 1,048,576 credits. A seat that has taken a job keeps at most 1,024.
+/// The seats that have not taken a job yet began with half of all credits together.
 const MANY: u32 = 1024;
 
-/// How many credits such a seat keeps.
+/// How many credits a seat keeps when it puts the others into the bank.
 const KEPT: u32 = 512;
 
 impl<J, A: Allocator> WakingRows<J, A> {
-    /// Before a put: a seat without a credit takes out what is in the bank, and puts the surplus back.
+    /// Prepares a put: a seat without a credit takes all credits out of the bank, and puts its
+    /// surplus back.
     pub(crate) fn fund(&self, seat: &mut Seat)
         requires ours { seat_id seat.old ≡ count_in self.now }
         requires idle { IsIdle seat.old }
@@ -40,7 +42,7 @@ impl<J, A: Allocator> WakingRows<J, A> {
         }
     }
 
-    /// After a take: where the seat has many credits, its surplus goes into the bank.
+    /// Puts the surplus of the seat's credits into the bank, if it has many.
     pub(crate) fn save(&self, seat: &mut Seat)
         requires ours { seat_id seat.old ≡ count_in self.now }
         ensures ours { seat_id seat.new ≡ seat_id seat.old }

@@ -1,4 +1,5 @@
-//! The end of rows that wake: what is left in their slots.
+//! The end of `WakingRows`: what is left in their slots. The account that `drain_all` promises
+//! comes from `SlotRows::close`.
 ghost use Rattle.std.specs.Prelude.{◌≡◌, ℕ, ◌≤◌, [], All, length, vec_len, vec_capacity};
 ghost use Rattle.std.specs.List.{flat_map};
 ghost use Rattle.run_queue.specs.Account.{AccountsFor};
@@ -13,8 +14,8 @@ use run_queue::SlotSeat;
 use std::alloc::Allocator;
 
 impl<J: Drop, A: Allocator + Clone> WakingRows<J, A> {
-    /// Ends the rows, given all their seats, which are taken out of the list, and hands out the jobs
-    /// that are left.
+    /// Ends the rows, given all their seats, and returns the jobs that are left. Takes the seats
+    /// out of the list.
     pub(crate) fn close_with(self, seats: &mut Vec<WakingSeat<J>, A>) -> Vec<J, A>
         requires ours { All (λ seat. home_of seat ≡ place_of self) seats.old.items }
         requires all { length seats.old.items ≡ seats_in self }
@@ -32,7 +33,8 @@ impl<J: Drop, A: Allocator + Clone> WakingRows<J, A> {
     }
 }
 
-/// The seats at the slots, the last first, into an empty list with room for them.
+/// Takes the seats out of the list, the last first, and moves their seats at the slots into an
+/// empty list that has room for them.
 fn slot_seats<J, A: Allocator>(
     seats: &mut Vec<WakingSeat<J>, A>,
     mut list: Vec<SlotSeat<Ticketed<J>>, A>,
@@ -54,7 +56,7 @@ fn slot_seats<J, A: Allocator>(
     list
 }
 
-/// The jobs, without their tickets, into an empty list with room for them.
+/// Moves the jobs without their tickets into an empty list that has room for them.
 fn jobs_of<J: Drop, A: Allocator>(items: Vec<Ticketed<J>, A>, mut jobs: Vec<J, A>) -> Vec<J, A>
     requires none { jobs.items ≡ [] }
     requires room { vec_len items ≤ vec_capacity jobs }

@@ -1,4 +1,5 @@
-//! Closing a pool whose workers have all ended.
+//! Closing a pool whose workers have all ended. `specs/Closings`, `Gathered` and `Ran` say what it
+//! leaves, and its accounts become the account of the whole pool.
 ghost use Rattle.std.specs.Prelude.{◌≡◌, ◌+◌, List, [], All, true, false, length, vec_len};
 ghost use Rattle.worker_pool.specs.Accounts.{Account};
 ghost use Rattle.worker_pool.specs.Closings.{IsHandedBack, all_outs};
@@ -24,8 +25,8 @@ use std::alloc::Allocator;
 use std::marker::PhantomData;
 use std::sync::Wait;
 
-/// Ends a pool, and runs the jobs that are left in its rows, or hands them back where it was
-/// cancelled. From here on nothing grows but the list of the caller's outs.
+/// Ends a pool, and runs the jobs that are left in its rows, or hands them back if the pool was
+/// cancelled. From here on only the list of the caller's outs grows.
 pub(crate) fn close<RT, J, A, W, R, L>(
     rt: &RT,
     pool: Pool<J, A, W, R>,
@@ -55,7 +56,7 @@ where
         (law_of J.Job ctx.now) (R.puts_of opener.seats.row) (L.items_of opener.outs)
         opener.refused (all_outs result.outs) result.left.items result.refused }
 
-    // The jobs that came to the opener came in, and none is passed on any more.
+    // The jobs that came to the opener are the jobs that came in, and no job is passed on any more.
     ensures account { (roots : List J) → Account R.keeps_accounts
         (law_of J.Job ctx.now) roots (R.puts_of opener.seats.row)
         (L.items_of opener.outs) [] opener.refused
@@ -90,7 +91,7 @@ where
     }
 }
 
-/// All workers come home, by number.
+/// Adds the states of all workers, by number.
 fn gather<J, A, W, R>(
     homes: Vec<Home<WorkerState<J, A, W, R>>, A>,
     mut gathered: Gathered<J, A, W, R>,
@@ -115,8 +116,8 @@ where
     gathered
 }
 
-/// Leaves the jobs as they are where the pool was cancelled, and else runs them. So many were refused
-/// before, and the answer counts those too.
+/// Runs the jobs, unless the pool was cancelled. Returns `before` plus the number of jobs that were
+/// refused here.
 fn settle<RT, J, A, R, L>(
     rt: &RT,
     alloc: &A,
@@ -146,8 +147,8 @@ where
     run_left::<_, _, _, R, L>(rt, alloc, ctx, left, outs, before)
 }
 
-/// Runs the jobs one after the other, each with all its kids. So many were refused before, and the
-/// answer counts those too.
+/// Runs the jobs one after the other, each with all its kids. Returns `before` plus the number of
+/// jobs that were refused here.
 fn run_left<RT, J, A, R, L>(
     rt: &RT,
     alloc: &A,

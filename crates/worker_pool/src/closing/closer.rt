@@ -1,4 +1,4 @@
-//! How the one that closes a pool passes jobs on.
+//! How the thread that closes a pool passes jobs on: it passes on none, and runs each kid at once.
 ghost use Rattle.std.specs.Prelude.{[]};
 
 use crate::working::passes::Passes;
@@ -7,7 +7,7 @@ use std::alloc::Allocator;
 use std::marker::PhantomData;
 use std::sync::Wait;
 
-/// The one that closes a pool. It has no rows any more to pass jobs on to.
+/// The thread that closes a pool. It has no rows any more to pass jobs on to.
 #[derive(Drop)]
 pub(crate) struct Closer<J, A: Allocator, R: Rows<J, A>>(pub(crate) PhantomData<(J, A, R)>);
 
@@ -24,7 +24,7 @@ impl<J, A: Allocator, R: Rows<J, A>> Passes<J> for Closer<J, A, R> {
 
     ghost takes_of = { λ _. [] };
 
-    /// Each job is given back.
+    /// Returns each job.
     fn pass<RT: Wait>(&mut self, _rt: &RT, _place: &(), job: J) -> Result<(), J> {
         Err(job)
     }

@@ -1,4 +1,5 @@
-//! What comes home from those that worked in a pool.
+//! The seats, outs and refusals of the workers that have come home. The memory for them is
+//! allocated when the pool is opened.
 ghost use Rattle.std.specs.Prelude.{◌≡◌, ℕ, ◌+◌, [], vec_capacity, IfOk};
 
 use crate::job::Job;
@@ -7,7 +8,8 @@ use event_count::WaitPoint;
 use run_queue::Rows;
 use std::alloc::{AllocError, Allocator};
 
-/// The seats of those that have come home, what their jobs left, and how many were refused.
+/// The seats of the workers that have come home, the outs of their jobs, and how many jobs were
+/// refused.
 #[derive(Drop)]
 pub(crate) struct Gathered<J, A, W, R>
 where
@@ -33,7 +35,7 @@ where
 {
     ghost use Rattle.worker_pool.specs.Gathered.{Adds, HasRoom, IsEmpty};
 
-    /// Nothing yet, with room for what so many bring.
+    /// Returns empty lists, with room for what `count` threads bring.
     pub(crate) fn with_room(alloc: &A, count: usize) -> Result<Self, AllocError>
         ensures empty { IfOk result IsEmpty }
         ensures room { IfOk result (HasRoom count) }
@@ -46,7 +48,7 @@ where
         })
     }
 
-    /// One more comes home, with this state.
+    /// Adds a worker that comes home with this state.
     pub(crate) fn add(&mut self, state: WorkerState<J, A, W, R>)
         requires room { HasRoom 1 self.old }
         ensures adds { Adds state self.old self.new }
@@ -65,7 +67,7 @@ where
     }
 }
 
-/// An empty list with room for so many.
+/// Returns an empty list with room for `count` items.
 pub(crate) fn room<T: Drop, A: Allocator + Clone>(
     alloc: &A,
     count: usize,

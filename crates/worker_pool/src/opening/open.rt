@@ -1,4 +1,5 @@
-//! Opening a pool. All memory is taken here that its starting, ending and closing need.
+//! Opening a pool. All memory that starting, ending and closing it need is allocated here; later
+//! only the lists of outs grow. `specs/Openings` says what a new pool is.
 ghost use Rattle.std.specs.Prelude.{◌≡◌, ◌+◌, ◌<◌, ◌↔◌, [], ◌∷◌, ◌++◌, map, All, IfOk};
 ghost use Rattle.std.specs.Prelude.{IsErrOf, length};
 ghost use Rattle.std.specs.List.{range_with_len};
@@ -31,7 +32,7 @@ use run_queue::Rows;
 use std::alloc::{AllocError, Allocator};
 use steal_walk::Coprimes;
 
-/// A pool, and what its threads work with.
+/// A new pool, and the states that its threads work with.
 #[derive(Drop)]
 pub(crate) struct Opened<J, A, W, R, L>
 where
@@ -46,13 +47,14 @@ where
     pub(crate) opener: OpenerState<J, A, W, R, L>,
     /// The state of each worker, by number.
     pub(crate) states: Vec<WorkerState<J, A, W, R>, A>,
-    /// Empty, with room for the states of all workers once they have ended.
+    /// An empty list, with room for the states of all workers once they have ended.
     pub(crate) ended: Vec<Home<WorkerState<J, A, W, R>>, A>,
-    /// Empty, with room for what all workers and the opener bring home.
+    /// Empty lists, with room for the seats and outs of all workers and of the opener.
     pub(crate) gathered: Gathered<J, A, W, R>,
 }
 
-/// A pool that is so set up, in which nothing was done yet, or the setup's fault.
+/// Opens the pool that the setup describes, in which nothing was done yet. Returns the setup's
+/// fault if there is one.
 pub(crate) fn open<J, A, W, R, L, O>(
     alloc: A,
     setup: &Setup<A>,
@@ -76,7 +78,7 @@ where
     Ok(open_checked::<J, A, W, R, L, O>(alloc, setup)?)
 }
 
-/// A pool, of a setup that passed the check.
+/// Opens the pool of a setup that passed the check.
 fn open_checked<J, A, W, R, L, O>(
     alloc: A,
     setup: &Setup<A>,
@@ -107,7 +109,8 @@ where
     })
 }
 
-/// A pool, what its opener works with, and the state of each worker, by number.
+/// Opens a pool, and returns it with the state of its opener and the state of each worker, by
+/// number.
 fn open_with_states<J, A, W, R, L, O>(
     alloc: A,
     setup: &Setup<A>,
@@ -145,7 +148,8 @@ where
     Ok((pool, opener, states))
 }
 
-/// A queue for so many workers and an opener, and the seats there by number: the opener's are last.
+/// Opens a queue for the given number of workers and an opener, and returns it with the seats
+/// there, by number. The last seats are the opener's.
 fn open_queue<J, A, W, R, O>(
     alloc: &A,
     workers: u16,
@@ -171,7 +175,7 @@ where
     ))
 }
 
-/// A pool with this queue, and the first seat at its stop word.
+/// Returns a pool with this queue, and the first seat at its stop word.
 fn pool_of<J, A, W, R>(
     alloc: A,
     queue: JobQueue<W, R>,
@@ -198,7 +202,8 @@ where
     Ok((pool, stop_seat))
 }
 
-/// What the opener works with, to whom the last seats go, and the state of each worker, by number.
+/// Returns the state of the opener, which gets the last seats, and the state of each worker, by
+/// number.
 fn opener_and_workers<J, A, W, R, L>(
     pool: &Pool<J, A, W, R>,
     setup: &Setup<A>,
@@ -250,7 +255,7 @@ where
     Ok((opener, states))
 }
 
-/// Takes the last item off the list.
+/// Removes the last item of the list, and returns it.
 fn take_last<T, A: Allocator>(list: &mut Vec<T, A>) -> T
     requires { 0 < length list.old.items }
     ensures { list.old.items ≡ list.new.items ++ result ∷ [] }
@@ -261,7 +266,7 @@ fn take_last<T, A: Allocator>(list: &mut Vec<T, A>) -> T
     last
 }
 
-/// The state of each worker, by number.
+/// Returns the state of each worker, by number.
 fn worker_states<J, A, W, R>(
     pool: &Pool<J, A, W, R>,
     setup: &Setup<A>,
@@ -303,7 +308,7 @@ where
     Ok(states)
 }
 
-/// The state of the worker of this number, with its seats.
+/// Returns the state of the worker `number`, with its seats.
 fn state_of<J, A, W, R>(
     pool: &Pool<J, A, W, R>,
     setup: &Setup<A>,

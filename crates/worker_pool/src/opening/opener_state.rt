@@ -1,4 +1,5 @@
-//! What the thread that opened a pool works with.
+//! The state of the opener (the thread that opened a pool) before and after it is lent to the body
+//! as a caller. `specs/OpenerStates` says what it has then.
 ghost use Rattle.std.specs.Prelude.{◌≡◌, ◌≤◌, ◌↔◌, [], IsTrue};
 ghost use Rattle.std.specs.Fn.{FnOnceReturnsAtMut};
 ghost use Rattle.worker_pool.specs.Callers.{IsCaller, StaysCaller, IsCancelled, roots_of};
@@ -17,7 +18,7 @@ use run_queue::Rows;
 use std::alloc::Allocator;
 use std::sync::Wait;
 
-/// The seats of the thread that opened a pool, and what the jobs left that it ran itself.
+/// The seats of the opener, and the outs and refusals of the jobs that it ran itself.
 #[derive(Drop)]
 pub(crate) struct OpenerState<J, A, W, R, L>
 where
@@ -29,7 +30,8 @@ where
 {
     pub(crate) seats: OpenerSeats<J, A, W, R>,
     pub(crate) stop_seat: StopSeat<J>,
-    /// What those that wait were last told of the stop word.
+    /// What the opener had stored in the stop word when it last woke all workers. It takes no
+    /// memory: contracts alone see it.
     pub(crate) told: Told<J>,
     pub(crate) outs: L::List,
     pub(crate) refused: u64,
@@ -37,7 +39,7 @@ where
     pub(crate) cancelled: bool,
 }
 
-/// Calls the body with a caller, and lets the workers end.
+/// Calls the body with a caller, and then stores that the pool is closing, so that the workers end.
 pub(crate) fn run_body<W, R, L, RT, J, A, F>(
     rt: &RT,
     pool: &Pool<J, A, W, R>,
@@ -72,7 +74,8 @@ where
     end(rt, pool, caller)
 }
 
-/// The caller that works with this state.
+/// Returns the caller that works with this state, in a pool of which `started` workers were
+/// started.
 fn caller_of<'p, J, A, W, R, L>(
     pool: &'p Pool<J, A, W, R>,
     ctx: &'p J::Ctx,
@@ -118,7 +121,7 @@ where
     }
 }
 
-/// From here on the pool is closing.
+/// Stores that the pool is closing, and returns the state that the caller worked with.
 fn end<RT, J, A, W, R, L>(
     rt: &RT,
     pool: &Pool<J, A, W, R>,

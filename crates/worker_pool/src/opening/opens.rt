@@ -1,4 +1,5 @@
-//! How the rows of a pool are opened, and the point at which its workers wait.
+//! The ways to open the rows of a pool and its wait point: over one count, or separately.
+//! `entry.rt` picks one of them; what follows from one count is a law of `waking_rows`.
 ghost use Rattle.std.specs.Prelude.{◌≡◌, ◌+◌, ◌≤◌, length, IfOk};
 ghost use Rattle.run_queue.specs.Limits.{most_rows};
 ghost use Rattle.worker_pool.specs.Openings.{AreRowSeats, AreWakers};
@@ -20,13 +21,13 @@ pub struct Place<J, A: Allocator, W: WaitPoint<A>, R: Rows<J, A>> {
     pub(crate) of: PhantomData<J>,
 }
 
-/// A way to open rows and a point.
+/// A way to open rows and a wait point.
 pub trait Opens<J, A: Allocator, W: WaitPoint<A>, R: Rows<J, A>> {
-    // What joins rows and a point that are so opened.
+    // The relation of rows and a point that were opened together in this way.
     ghost joins: { R → W → Type 0 };
 
-    /// Rows and a point for so many workers. Beside their seats there is one more at each, for the
-    /// thread that opens the pool.
+    /// Opens rows and a point for the given number of workers. Each has a seat for every worker,
+    /// and one more for the thread that opens the pool.
     fn open(alloc: &A, workers: u16) -> Result<Place<J, A, W, R>, AllocError>
         requires { IsPoolSize workers }
         ensures rows { IfOk result (λ made. R.row_count made.rows ≡ workers) }
@@ -42,7 +43,7 @@ pub trait Opens<J, A: Allocator, W: WaitPoint<A>, R: Rows<J, A>> {
         ensures joined { IfOk result (λ made. joins made.rows made.point) };
 }
 
-/// Each is opened by itself.
+/// Opens rows and point separately.
 pub struct Apart;
 
 impl<J, A: Allocator + Clone, W: WaitPoint<A>, R: Rows<J, A>> Opens<J, A, W, R> for Apart {
@@ -61,8 +62,9 @@ impl<J, A: Allocator + Clone, W: WaitPoint<A>, R: Rows<J, A>> Opens<J, A, W, R> 
     }
 }
 
-/// Both are opened over one count, so that no job is slept on. A point and rows that are opened each
-/// by itself have two counts, and a put there wakes nobody.
+/// Opens rows and point over one event count, so that no job lies forgotten in a row while all
+/// workers sleep. Rows that wake workers must be opened in this way: opened separately from the
+/// point, they have a count of their own, and a put into them wakes no worker.
 pub struct OverOneCount;
 
 impl<J: Drop, A: Allocator + Clone> Opens<J, A, RowPoint<A>, WakingRows<J, A>> for OverOneCount {
@@ -86,7 +88,7 @@ impl<J: Drop, A: Allocator + Clone> Opens<J, A, RowPoint<A>, WakingRows<J, A>> f
     }
 }
 
-/// Rows for so many workers, and the seats there.
+/// Opens rows for the given number of workers, and one seat more.
 fn open_rows<J, A, R>(alloc: &A, workers: u16) -> Result<(R, Vec<R::Seat, A>), AllocError>
 where
     A: Allocator + Clone,
@@ -104,7 +106,7 @@ where
     }
 }
 
-/// A point at which so many workers wait, and the seats there.
+/// Opens a point at which the given number of workers can wait, and one seat more.
 fn open_point<A, W>(alloc: &A, workers: u16) -> Result<(W, Vec<W::Seat, A>), AllocError>
 where
     A: Allocator + Clone,

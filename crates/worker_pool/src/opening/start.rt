@@ -1,4 +1,6 @@
-//! Starting workers, and bringing home what they worked with.
+//! Starting a thread for each worker, and collecting the states of all workers. It knows nothing of
+//! pools: the traits `Workplace` and `Opening` say what the threads do. `specs/Starts` has the same
+//! cases.
 ghost use Rattle.std.specs.Prelude.{◌≡◌, ℕ, ◌+◌, ◌<◌, ◌≤◌, [], All, vec_len, vec_capacity};
 ghost use Rattle.std.specs.List.{AllZip};
 ghost use Rattle.run_queue.specs.Limits.{most_rows};
@@ -16,7 +18,7 @@ use std::sync::atomic::{AtomicU64, Ordering};
 use std::thread;
 use std::thread::{Promise, Scope, Threads};
 
-/// Where workers work, each with a state of its own.
+/// A place where workers work, each with a state of its own.
 pub(crate) trait Workplace<X> {
     // A worker in this state is at work here.
     ghost is_at_work: { Self → X → Type 0 };
@@ -24,33 +26,35 @@ pub(crate) trait Workplace<X> {
     // A worker that began in the first of these states has ended in the second.
     ghost has_ended: { Self → X → X → Type 0 };
 
-    /// Works until there is nothing more to do.
+    /// Works until there is nothing more to do, and returns the worker's state.
     fn work<RT: Wait>(&self, rt: &RT, state: X) -> X
         requires { is_at_work self.now state }
         ensures at_work { is_at_work self.now result }
         ensures ended { has_ended self.now state result };
 }
 
-/// What the one that opens a workplace does while the workers work.
+/// The work of the opening thread while the workers work.
 pub(crate) trait Opening<S> {
     ghost use Rattle.std.specs.Prelude.{ℕ};
 
-    /// What is left to it.
+    /// The state that the opening thread has afterwards.
     type State;
 
-    // It may begin at this workplace, where so many workers were started.
+    // The work may begin at this workplace, where the given number of workers were started.
     ghost may_begin: { Self → S → ℕ → Type 0 };
 
-    // It has ended, where so many workers were started, and this is what it left.
+    // The work has ended at this workplace, where the given number of workers were started, and
+    // left this state.
     ghost has_left: { Self → S → ℕ → Self.State → Type 0 };
 
-    /// Does it, and lets the workers end.
+    /// Does the work, and lets the workers end.
     fn run(self, workplace: &S, started: u32) -> Self::State
         requires { may_begin self workplace.now started }
         ensures { has_left self workplace.now started result };
 }
 
-/// A worker that began in this state at work here still is at work, and has ended or did nothing.
+/// The promise of a worker's thread: a worker that began in this state is still at work at this
+/// workplace, and has ended or did nothing.
 #[derive(Drop)]
 struct ComeHome<S, X>(Snapshot<S>, Snapshot<X>);
 
@@ -59,17 +63,17 @@ impl<X, S: Workplace<X>> Promise<X> for ComeHome<S, X> {
         Returns S.is_at_work S.has_ended from.0.value from.1.value state };
 }
 
-/// The number of no worker.
+/// A number that no worker has.
 const NOBODY: u64 = u64::MAX;
 
-/// How many bytes of stack a worker has, as many as Rust gives a thread. The C library's own are
-/// those of `ulimit -s`, commonly four times as many, which under a limit of memory leave room for
-/// few workers.
+/// The bytes of stack of a worker, which are as many as Rust gives a thread. The C library's
+/// default is the limit of `ulimit -s`, commonly four times as much, which leaves room for few
+/// workers if memory is limited.
 const STACK: usize = 2 << 20;
 
-/// Starts a worker for each of the first `starts` states, calls the opening with how many were
-/// started, and brings all states home, by number. A worker that wasn't started does nothing. Those
-/// that were started are those whose threads were joined.
+/// Starts a worker for each of the first `starts` states, and calls `opening` with the number of
+/// workers that were started. Returns all states, by number. A worker that was not started does
+/// nothing. The workers that count as started are the workers whose threads were joined.
 pub(crate) fn run_first<RT, X, A, S, B>(
     rt: &RT,
     workplace: &S,
@@ -119,9 +123,10 @@ where
     )
 }
 
-/// Starts a worker for the last of the states, and then for the others, so that the first come home
-/// first. One whose thread is refused is called all the same, once the opening has ended, so that
-/// its state comes home: its number is flagged before, and tells it to do nothing.
+/// Starts a worker for the last of the states, and then for the others, so that the first states
+/// come home first. If a thread cannot be started, this thread calls its function once the opening
+/// has ended, so that the state comes home. The worker's number is stored in `left_out` before,
+/// which tells the function to do nothing.
 fn start_all<'s, E, RT, X, A, S, B>(
     rt: &'s RT,
     scope: &Scope<'s, E>,

@@ -1,4 +1,5 @@
-//! A pool as the workplace of its workers, and what its opener does there.
+//! A pool as the workplace of its workers, and what its opener does there. It joins `start.rt`,
+//! which knows no pools, with `working/worker.rt` and `opener_state.rt`.
 ghost use Rattle.std.specs.Prelude.{◌≡◌, ◌≤◌};
 
 use crate::caller::Caller;
@@ -15,7 +16,7 @@ use run_queue::Rows;
 use std::alloc::Allocator;
 use std::sync::Wait;
 
-/// A pool, what all its jobs share, and what is called before each turn of a worker.
+/// A pool, the context of its jobs, and the gate that is called before each turn of a worker.
 #[derive(Drop)]
 pub(crate) struct PoolWorkplace<'p, J: Job<A>, A: Allocator, W: WaitPoint<A>, R: Rows<J, A>, G> {
     pub(crate) pool: &'p Pool<J, A, W, R>,
@@ -45,7 +46,7 @@ where
     }
 }
 
-/// Lends a body the caller.
+/// The work of the opener: it lends a caller to the body.
 #[derive(Drop)]
 pub(crate) struct LendsCaller<'p, RT, J, A, W, R, L, F>
 where
@@ -61,8 +62,8 @@ where
     pub(crate) body: F,
 }
 
-// The parameters stand in the order that `with_pool` has them in: a bound on what takes a caller is
-// passed on from there, and only in that order.
+// The parameters stand in the order of `with_pool`'s parameters: a bound on a function that takes a
+// caller is passed on from there only in that order.
 impl<'p, W, R, L, RT, J, A, G, F> Opening<PoolWorkplace<'p, J, A, W, R, G>>
     for LendsCaller<'p, RT, J, A, W, R, L, F>
 where

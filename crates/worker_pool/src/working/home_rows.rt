@@ -1,4 +1,5 @@
-//! The rows in which a worker looks before it looks in all.
+//! The partition in which a worker looks before it looks in all rows. `specs/Setup` (`home_of`)
+//! says which one; the order of looking stands in `working/worker.rt`.
 ghost use Rattle.std.specs.Prelude.{◌≡◌, ◌-◌, ◌<◌, ◌≤◌, ◌↔◌, All, IfOk, IsNone, IfSome};
 ghost use Rattle.worker_pool.specs.Setup.{IsPoolSize, ArePartitions, home_of, whole};
 
@@ -8,7 +9,7 @@ use rand_pcg::Lcg64Xsh32;
 use std::alloc::{AllocError, Allocator};
 use steal_walk::{Coprimes, Partition, Walk};
 
-/// A worker's partition, and what it walks through it by.
+/// A worker's partition, and the coprimes from which its walks are made.
 #[derive(Drop)]
 pub(crate) struct HomeRows<A: Allocator> {
     pub(crate) rows: Partition,
@@ -17,7 +18,7 @@ pub(crate) struct HomeRows<A: Allocator> {
 }
 
 impl<A: Allocator> HomeRows<A> {
-    /// The walk over the partition that the next random word picks.
+    /// Returns the walk over the partition that the next random word picks.
     pub(crate) fn walk(&self, random: &mut Lcg64Xsh32) -> Walk
         ensures { All (λ row. row < self.now.rows.limit) result }
     {
@@ -26,7 +27,7 @@ impl<A: Allocator> HomeRows<A> {
     }
 }
 
-/// The partition of the worker of this number, where it isn't the whole pool.
+/// Returns the partition of the worker `number`, or `None` if it is the whole pool.
 pub(crate) fn home_rows_of<A: Allocator + Clone>(
     alloc: &A,
     setup: &Setup<A>,

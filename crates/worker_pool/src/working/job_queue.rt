@@ -1,4 +1,5 @@
-//! The jobs of a pool, and those that wait for them. Nobody else reaches the rows or the point.
+//! The rows and the wait point of a pool. The rest of the crate reaches them only through the calls
+//! of this folder, so the order of puts, looks, wakes and sleeps is set here.
 ghost use Rattle.std.specs.Prelude.{◌≡◌, [], length, All};
 ghost use Rattle.event_word.specs.declared.phase.Phase.TheVariants.{Running};
 ghost use Rattle.run_queue.specs.Account.{AccountsFor};
@@ -26,6 +27,7 @@ pub(crate) struct JobQueue<W: Drop, R: Drop> {
 }
 
 impl<W: Drop, R: Drop> JobQueue<W, R> {
+    /// Returns a queue of these rows and this point.
     pub(crate) fn new(rows: R, point: W, workers: u16) -> Self
         ensures { result ≡ record { rows = rows; point = point; workers = workers } }
     {
@@ -36,7 +38,7 @@ impl<W: Drop, R: Drop> JobQueue<W, R> {
         }
     }
 
-    /// Ends the rows and the point, given all their seats, and hands out the jobs that are left.
+    /// Ends the rows and the point, given all their seats, and returns the jobs that are left.
     pub(crate) fn end<J, A>(self, rows: Vec<R::Seat, A>, wakers: Vec<W::Seat, A>) -> Vec<J, A>
     where
         A: Allocator,

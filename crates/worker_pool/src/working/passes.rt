@@ -1,4 +1,5 @@
-//! How the kids of a job are passed on by the one that runs it.
+//! How a thread that runs a job passes on the kids of the job. `working/run.rt` runs jobs by it;
+//! its three kinds are the opener, a worker and the closer.
 ghost use Rattle.std.specs.Prelude.{◌≡◌, ℕ, List, IfErr};
 ghost use Rattle.run_queue.specs.Account.{AddsIfOk};
 
@@ -7,25 +8,26 @@ mod by_worker;
 
 use std::sync::Wait;
 
-/// One that runs jobs, and passes on the kids that they fork.
+/// A thread that runs jobs, and passes on the kids that they fork.
 pub(crate) trait Passes<J> {
-    /// What it works in.
+    /// The place that jobs are passed on to.
     type Place;
 
-    // It may pass jobs on in this place.
+    // The passer may pass jobs on in this place.
     ghost is_ready: { Self.Place → Self → Type 0 };
 
-    // Its number, which stays.
+    // The passer's number, which never changes.
     ghost number_of: { Self → ℕ };
 
-    // Whether accounts are kept, and then the jobs that it has passed on, and those that came to it.
+    // Whether accounts are kept. If so, `puts_of` are the jobs that were passed on, and `takes_of`
+    // are the jobs that came in.
     ghost keeps_accounts: { Type 0 };
 
     ghost puts_of: { Self → List J };
 
     ghost takes_of: { Self → List J };
 
-    /// Passes a job on, or gives it back: then it is to be run at once.
+    /// Passes a job on, or returns it. The caller must run a returned job at once.
     fn pass<RT: Wait>(&mut self, rt: &RT, place: &Self::Place, job: J) -> Result<(), J>
         requires { is_ready place.now self.old }
         ensures ready { is_ready place.now self.new }

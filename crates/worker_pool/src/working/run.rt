@@ -1,4 +1,5 @@
-//! Running one job to its end.
+//! Running one job to its end, for workers, the opener and the closer. What became of the job and
+//! its kids is `specs/Ran`, from which all accounts are made.
 ghost use Rattle.std.specs.Prelude.{◌≡◌, ◌+◌, ◌^◌, ◌<◌, ◌≤◌, length};
 ghost use Rattle.worker_pool.specs.Ran.{Ran};
 ghost use Rattle.worker_pool.specs.Laws.{law_of};
@@ -9,8 +10,8 @@ use crate::working::passes::Passes;
 use std::alloc::Allocator;
 use std::sync::Wait;
 
-/// Takes memory for the job's out, and beside it for as many as are owed, and runs the job. Where
-/// there is none the job is abandoned. The answer counts the jobs that were refused.
+/// Allocates memory for the job's out, and runs the job. If the allocation fails, the job is
+/// abandoned. Returns how many jobs were refused.
 pub(crate) fn begin<RT, J, A, L, P>(
     rt: &RT,
     alloc: &A,
@@ -41,8 +42,9 @@ where
     run::<_, _, _, L, _>(rt, alloc, ctx, place, passer, outs, 0, job)
 }
 
-/// Takes steps until the job is done. A kid that isn't passed on is run at once. There is memory for
-/// the job's out, and beside it for as many as are owed.
+/// Takes steps until the job is done, and returns how many jobs were refused. A kid that is not
+/// passed on runs at once, before the rest of the job. The list has memory for the job's out and
+/// for `owed` more outs, of jobs that are to be resumed later.
 fn run<RT, J, A, L, P>(
     rt: &RT,
     alloc: &A,

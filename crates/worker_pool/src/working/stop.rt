@@ -1,5 +1,5 @@
-//! The stop word of a pool, which says whether the pool is open, closing or cancelled, and what the
-//! seats at its table know.
+//! The stop word of a pool, which says whether the pool is open, closing or cancelled, and the
+//! seats at its table. The values of the word stand in `specs/Stops` too.
 ghost use Rattle.std.specs.Prelude.{◌≡◌, ◌≢◌, ◌↔◌, List, [], ◌∷◌, ◌++◌, IfOk, IsTrue};
 ghost use Rattle.worker_pool.specs.Stops.{IsStopSeatOf, jobs_of, stored_of, found_of};
 ghost use Rattle.worker_pool.specs.Stops.{open_word, cancelled_word, closing_word};
@@ -9,11 +9,11 @@ use atomic_table::{Play, Seat, Shared, Split, Table, TableRule};
 use std::alloc::{AllocError, Allocator};
 use std::marker::{Brand, PhantomData};
 
-/// How many words the table has: two cache lines.
+/// The number of words in the table: two cache lines.
 const WORDS: usize = 16;
 
-/// The place of the stop word. The cache line that it lies in has no memory of others, wherever the
-/// block begins.
+/// The place of the stop word in the table. Its cache line lies inside the table's block, wherever
+/// the block begins, so no other memory shares the line.
 const STOP: usize = 8;
 
 /// The stop word of a pool that is open.
@@ -25,7 +25,7 @@ const CLOSING: u64 = 1;
 /// The stop word of a pool that was cancelled, and stays so while it closes.
 const CANCELLED: u64 = 2;
 
-/// Nothing is asked of the stop word.
+/// The rule of the table, which allows every value of the stop word.
 pub struct StopRule;
 
 impl<J> TableRule<(), StopView<J>, ()> for StopRule {
@@ -36,7 +36,7 @@ impl<J> TableRule<(), StopView<J>, ()> for StopRule {
     ghost first = { λ _. unused };
 }
 
-/// A new seat has scheduled nothing.
+/// How a new seat is made: it has scheduled nothing.
 struct DealsSeat<J>(PhantomData<J>);
 
 impl<J> Split<StopView<J>> for DealsSeat<J> {
@@ -47,7 +47,7 @@ impl<J> Split<StopView<J>> for DealsSeat<J> {
     ghost right = { λ _. unused };
 }
 
-/// The stop word is loaded.
+/// The step that loads the stop word.
 struct Looks<J>(PhantomData<J>);
 
 impl<J> Play<(), StopView<J>> for Looks<J> {
@@ -56,7 +56,7 @@ impl<J> Play<(), StopView<J>> for Looks<J> {
     ghost then = { looks };
 }
 
-/// The stop word is stored.
+/// The step that stores the stop word.
 struct Stores<J>(PhantomData<J>);
 
 impl<J> Play<(), StopView<J>> for Stores<J> {
@@ -65,7 +65,7 @@ impl<J> Play<(), StopView<J>> for Stores<J> {
     ghost then = { stores };
 }
 
-/// The jobs that a load schedules.
+/// A list of jobs that a load of the stop word schedules.
 trait Scheduled<J> {
     ghost jobs: { List J };
 }
@@ -74,7 +74,8 @@ impl<J> Scheduled<J> for Brand {
     ghost jobs = { [] };
 }
 
-/// The stop word is loaded, and these jobs are scheduled.
+/// The step that loads the stop word, and records in the seat's view that these jobs were
+/// scheduled.
 struct Schedules<J, K: Scheduled<J>>(PhantomData<(J, K)>);
 
 impl<J, K: Scheduled<J>> Play<(), StopView<J>> for Schedules<J, K> {
@@ -86,13 +87,13 @@ impl<J, K: Scheduled<J>> Play<(), StopView<J>> for Schedules<J, K> {
 /// The table of a pool's stop word.
 pub type StopTable<J, A> = Table<(), StopView<J>, (), StopRule, A>;
 
-/// A word that says whether a pool is closing.
+/// A stop word, which says whether a pool is open, closing or cancelled.
 pub type StopWord<J> = Shared<(), StopView<J>, (), StopRule>;
 
 /// A seat at a stop word.
 pub type StopSeat<J> = Seat<(), StopView<J>>;
 
-/// The stop word of a pool that is open, and its first seat.
+/// Returns the stop word of a pool that is open, and its first seat.
 pub fn open<J, A: Allocator + Clone>(
     alloc: &A,
 ) -> Result<(StopTable<J, A>, StopSeat<J>), AllocError>
@@ -103,7 +104,7 @@ pub fn open<J, A: Allocator + Clone>(
     Table::of_words(alloc.clone()?, &[OPEN; WORDS], &())
 }
 
-/// Another seat.
+/// Makes another seat at the stop word.
 pub fn new_seat<J>(stop: &StopWord<J>, seat: &mut StopSeat<J>) -> StopSeat<J>
     requires { IsStopSeatOf stop.now seat.old }
     ensures of { IsStopSeatOf stop.now seat.new × IsStopSeatOf stop.now result }
@@ -115,7 +116,7 @@ pub fn new_seat<J>(stop: &StopWord<J>, seat: &mut StopSeat<J>) -> StopSeat<J>
     stop.split_seat::<DealsSeat<J>>(seat)
 }
 
-/// Whether the pool was closing or cancelled when the word was loaded.
+/// Loads the word, and returns whether the pool is closing or cancelled.
 pub fn is_set<J>(stop: &StopWord<J>, seat: &mut StopSeat<J>) -> bool
     requires { IsStopSeatOf stop.now seat.old }
     ensures of { IsStopSeatOf stop.now seat.new }
@@ -126,7 +127,7 @@ pub fn is_set<J>(stop: &StopWord<J>, seat: &mut StopSeat<J>) -> bool
     stop.load::<Looks<J>>(seat, STOP) != OPEN
 }
 
-/// Whether the pool was cancelled when the word was loaded.
+/// Loads the word, and returns whether the pool was cancelled.
 pub fn is_cancelled<J>(stop: &StopWord<J>, seat: &mut StopSeat<J>) -> bool
     requires { IsStopSeatOf stop.now seat.old }
     ensures of { IsStopSeatOf stop.now seat.new }
@@ -137,7 +138,7 @@ pub fn is_cancelled<J>(stop: &StopWord<J>, seat: &mut StopSeat<J>) -> bool
     stop.load::<Looks<J>>(seat, STOP) == CANCELLED
 }
 
-/// From now on the pool is closing. Where it was cancelled it stays so.
+/// Stores that the pool is closing, or that it was cancelled if `cancelled` is true.
 pub fn set<J>(stop: &StopWord<J>, seat: &mut StopSeat<J>, cancelled: bool)
     requires { IsStopSeatOf stop.now seat.old }
     ensures of { IsStopSeatOf stop.now seat.new }
@@ -148,7 +149,7 @@ pub fn set<J>(stop: &StopWord<J>, seat: &mut StopSeat<J>, cancelled: bool)
     stop.store::<Stores<J>>(seat, STOP, word);
 }
 
-/// From now on the pool is cancelled.
+/// Stores that the pool is cancelled.
 pub fn cancel<J>(stop: &StopWord<J>, seat: &mut StopSeat<J>)
     requires { IsStopSeatOf stop.now seat.old }
     ensures of { IsStopSeatOf stop.now seat.new }
@@ -158,7 +159,7 @@ pub fn cancel<J>(stop: &StopWord<J>, seat: &mut StopSeat<J>)
     stop.store::<Stores<J>>(seat, STOP, CANCELLED);
 }
 
-/// Writes down that the job was scheduled: in the seat's view, where contracts see it.
+/// Records in the seat's view that the job was scheduled. Contracts alone see the view.
 pub(crate) fn note<J>(stop: &StopWord<J>, seat: &mut StopSeat<J>, job: &J)
     requires { IsStopSeatOf stop.now seat.old }
     ensures of { IsStopSeatOf stop.now seat.new }
@@ -168,6 +169,7 @@ pub(crate) fn note<J>(stop: &StopWord<J>, seat: &mut StopSeat<J>, job: &J)
     note_by::<J, Brand>(stop, seat, job);
 }
 
+/// Records in the seat's view that the jobs of `K` were scheduled.
 fn note_by<J, K: Scheduled<J>>(stop: &StopWord<J>, seat: &mut StopSeat<J>, _job: &J)
     requires { IsStopSeatOf stop.now seat.old }
     ensures of { IsStopSeatOf stop.now seat.new }

@@ -1,12 +1,12 @@
-//! What the seats at a stop word's table know.
+//! What the seats at a stop word's table know. `specs/StopPlays` says how each step changes it.
 use std::collections::LinkedList;
 
-/// What a seat knows. No value of this type is made.
+/// What a seat knows. No value of this type exists when the program runs.
 pub struct StopView<J> {
-    /// The jobs that were scheduled through it, in order.
+    /// The jobs that were scheduled through the seat, in order.
     jobs: LinkedList<J>,
-    /// What it last stored in the stop word, or 0.
+    /// What the seat last stored in the stop word, or 0.
     stored: u64,
-    /// What its last look found in the stop word, or 0.
+    /// What the seat's last load found in the stop word, or 0.
     found: u64,
 }

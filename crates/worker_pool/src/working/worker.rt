@@ -1,4 +1,6 @@
-//! A worker's turns.
+//! A worker's turns. The order in which a worker looks for jobs is in no contract. Contracts say
+//! that it looks at the stop word and at all rows before it sleeps, or ends in a closing pool
+//! (`specs/Seen`).
 ghost use Rattle.std.specs.Prelude.{◌≡◌, ◌<◌, ◌++◌, All, false};
 ghost use Rattle.steal_walk.specs.Walk.{VisitsEachOnce};
 ghost use Rattle.worker_pool.specs.Seats.{IsJobQueue, IsOwner};
@@ -25,7 +27,7 @@ use std::sync::Wait;
 use std::thread::yield_now;
 use steal_walk::Walk;
 
-/// What a worker works with.
+/// A worker's number, seats, random words and outs.
 #[derive(Drop)]
 pub(crate) struct WorkerState<J, A, W, R>
 where
@@ -36,7 +38,7 @@ where
     R: Rows<J, A>,
 {
     pub(crate) number: u32,
-    /// Its partition, where it has one that isn't the whole pool.
+    /// The worker's partition, or `None` if it is the whole pool.
     pub(crate) home: Option<HomeRows<A>>,
     pub(crate) seats: WorkerSeats<J, A, W, R>,
     pub(crate) stop: StopSeat<J>,
@@ -48,16 +50,16 @@ where
 /// How a turn ended.
 #[derive(Drop)]
 pub(crate) enum Turn<J> {
-    /// With a job to run.
+    /// The turn found this job, which is to be run.
     Found(J),
-    /// With nothing, and the worker turns again.
+    /// The turn found no job, and the worker takes another turn.
     Again,
-    /// With nothing in a pool that is closing, or at once in one that was cancelled: it was the
-    /// last.
+    /// The turn was the last: it found no job in a pool that is closing, or the pool was cancelled.
     Last,
 }
 
-/// Turns until the pool is closing and no job is found, or was cancelled, and runs what it finds.
+/// Takes turns, and runs the jobs that they find, until a turn is the last: no job is found in a
+/// pool that is closing, or the pool was cancelled.
 pub(crate) fn take_turns<RT, J, A, W, R, G>(
     rt: &RT,
     pool: &Pool<J, A, W, R>,
@@ -120,8 +122,8 @@ where
     unreachable!()
 }
 
-/// Looks in its own row, then in those of its partition, and then in all; where it finds nothing it
-/// waits. In a pool that was cancelled it looks nowhere.
+/// Takes one turn. It looks in the worker's own row, then in its partition, then in all rows, and
+/// waits if it finds no job. In a cancelled pool it ends at once.
 fn take_turn<RT, J, A, W, R>(
     rt: &RT,
     pool: &Pool<J, A, W, R>,
@@ -169,8 +171,8 @@ where
     wait(rt, pool, seats, stop, random)
 }
 
-/// Says that it is about to wait, looks once more at the stop word and at all rows, and waits where
-/// there is nothing to do.
+/// Enters the wait point, looks once more at the stop word and at all rows, and sleeps if the pool
+/// is open and all rows are empty.
 fn wait<RT, J, A, W, R>(
     rt: &RT,
     pool: &Pool<J, A, W, R>,
@@ -219,7 +221,7 @@ where
     Turn::Again
 }
 
-/// The walk over all rows that the next random word picks.
+/// Returns the walk over all rows that the next random word picks.
 fn walk_of<J, A, W, R>(pool: &Pool<J, A, W, R>, random: &mut Lcg64Xsh32) -> Walk
 where
     A: Allocator,

@@ -23,7 +23,7 @@ fn main() {
         let (header, count) = (number(&mut bytes) as usize, number(&mut bytes));
         let text = String::from_utf8(taken(&mut bytes, header).to_vec()).expect("UTF-8");
         let values: Vec<i64> = (0..count).map(|_| number(&mut bytes) as i64).collect();
-        match evaluate_joined(&Header { text }, &values, 3) {
+        match evaluate_joined(&Header { text }, &values) {
             Ok(it) => println!(r#"{{"data":{:?},"dims":{:?}}}"#, it.values, it.dims),
             Err(fault) => println!("error {fault}"),
         }

@@ -1,15 +1,17 @@
-use Rattle.std.proofs.Common.{inl, inr, refl}
-use Rattle.expr_reader.specs.declared.fault.Fault.TheVariants.{NoMemory}
-use Rattle.frame_server.proofs.Answering.{short-fault, IsFrameUnder-fault}
+use Rattle.std.proofs.Common.{◌≡◌, ◌∙◌, true, false, ap, ℕ, sym}
+use Rattle.tensor_runner.specs.Limited.{is_over}
+use Rattle.frame_server.specs.Limited.{is_longer}
+use Rattle.frame_server.proofs.Answering.{IsFrameFrom-long, IsFrameFrom-read}
 use Rattle.frame_server.proofs.answer.answer.Goals as goal
 
-pub returns-in-Ok : goal.returns-in-Ok
-returns-in-Ok g c = λ bytes whole kept. c.in-Ok.ensures bytes whole kept
+pub returns-then-is_too_long : goal.returns-then-is_too_long
+returns-then-is_too_long g c = λ bytes whole is.
+    let long : is_longer c.args.limits bytes ≡ true =
+    ap (λ (n : ℕ). is_over c.args.limits.bytes n) (sym (c.len.ensures bytes whole is)) ∙ sym c.is_too_long.ensures ∙ c.if-is_too_long.true in
+    IsFrameFrom-long c.args.limits bytes c.too_long.result long c.too_long.ensures.bytes c.too_long.ensures.fault c.too_long.ensures.steps
 
-pub returns-in-Err : goal.returns-in-Err
-returns-in-Err g c = λ bytes whole kept. elim c.refusal.ensures.fault [
-  | inl own ↦ IsFrameUnder-fault c.args.limits bytes c.in-Err.fault c.refusal.result (c.in-Err.ensures bytes whole kept) own c.refusal.ensures.steps
-  | inr memory ↦
-      IsFrameUnder-fault c.args.limits bytes NoMemory c.refusal.result
-      (inr (refl, short-fault bytes c.in-Err.fault whole (c.in-Err.ensures bytes whole kept) memory.1)) memory.0 c.refusal.ensures.steps
-]
+pub returns : goal.returns
+returns g c = λ bytes whole is.
+    let short : is_longer c.args.limits bytes ≡ false =
+    ap (λ (n : ℕ). is_over c.args.limits.bytes n) (sym (c.len.ensures bytes whole is)) ∙ sym c.is_too_long.ensures ∙ c.if-is_too_long.false in
+    IsFrameFrom-read c.args.limits bytes c.answer_kept.result short (c.answer_kept.ensures bytes whole is)

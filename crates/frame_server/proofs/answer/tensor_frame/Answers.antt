@@ -1,4 +1,4 @@
-use Rattle.std.proofs.Common.{◌∙◌, ap, refl, List, ℕ, ◌++◌, inl}
+use Rattle.std.proofs.Common.{◌∙◌, ap, List, ℕ, ◌++◌, inl, inr}
 use Rattle.std.specs.List.{flat_map}
 use Rattle.expr_reader.specs.Contents.{Contents}
 use Rattle.tensor_runner.specs.Answer.{tensor}
@@ -10,9 +10,13 @@ use Rattle.frame_server.proofs.answer.tensor_frame.Goals as goal
 pub returns-in-Ok-front_of-clause-frame : goal.returns-in-Ok-front_of-clause-frame
 returns-in-Ok-front_of-clause-frame g c =
     let t = c.in-Ok.tensor in
-    inl (
-      ap (λ (l : List ℕ). l ++ flat_map value_bytes t.values) c.in-Ok-front_of.ensures
-          ∙ front-behind (dims_text t.dims) t.values
-          ∙ ap (λ (u : Contents). answer_bytes (tensor u)) c.in-Ok.ensures.tensor,
-      refl,
-    )
+    elim c.value_frame.ensures.bytes [
+      | inl own ↦ inl (
+        own.0
+            ∙ ap (λ (l : List ℕ). l ++ flat_map value_bytes t.values) c.in-Ok-front_of.ensures
+            ∙ front-behind (dims_text t.dims) t.values
+            ∙ ap (λ (u : Contents). answer_bytes (tensor u)) c.in-Ok.ensures.tensor,
+        own.1,
+      )
+      | inr memory ↦ inr memory
+    ]

@@ -1,4 +1,4 @@
--- All but what is left was passed over.
+-- All but what is left was skipped.
 use Rattle.std.proofs.Common.{◌≡◌, ◌≤◌, ◌-◌}
 use Rattle.message_server.specs.Pieces.{pending_bytes}
 use Rattle.frame_server.specs.private.Taking.{TakesCount}

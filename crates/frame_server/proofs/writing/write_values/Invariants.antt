@@ -1,8 +1,8 @@
 -- The first values were written behind what the client held, and noted.
-use Rattle.std.proofs.Common.{◌≡◌, ◌≤◌, ◌-◌, length, take, option_map}
+use Rattle.std.proofs.Common.{◌≡◌, ◌≤◌, ◌<◌, ◌+◌, ◌*◌, ◌-◌, min, length, take, option_map}
 use Rattle.std.specs.List.{flat_map}
 use Rattle.std.specs.Io.KnownBytes.{Appends}
-use Rattle.message_server.specs.History.{writing}
+use Rattle.message_server.specs.History.{writing, AddsAtMost}
 use Rattle.frame_server.specs.Frame.{value_bytes}
 use Rattle.frame_server.proofs.writing.write_values.Given as goal
 
@@ -14,6 +14,9 @@ invariant-loop-written g l =
     × (g.C.Client.write_failures l.client ≡ g.C.Client.write_failures l.fn.client)
     × (g.C.Client.remaining l.client ≡ g.C.Client.remaining l.fn.client)
     × (g.C.Client.read_failures l.client ≡ g.C.Client.read_failures l.fn.client)
+    × AddsAtMost l.writes (g.C.Client.writes l.fn.client) (g.C.Client.writes l.client)
+    × (l.written ≡ min (8192 * l.writes) (length l.values))
+    × (8192 * l.writes < length l.values + 8192)
 
 abbrev pub decreases-loop-written : goal.decreases-loop-written
 decreases-loop-written g l = length l.values - l.written

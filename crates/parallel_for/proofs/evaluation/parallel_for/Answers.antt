@@ -9,7 +9,7 @@ module _ {T E U F : Type 0} {items : T} {fault : E} {found : F} {checked : Resul
       → (Ok items ≡ Err fault → B × C) × (B × C → Ok items ≡ Err fault)
   no_fault well faulty = (λ fails. absurd (cc), λ bad. let is = faulty bad.1 in absurd (cc))
 
-  -- the same of a fault that is said by two facts
+  -- nor is a result with items a fault that two facts describe
   no_fault-of_two : {B C D : Type 0}
       → checked ≡ Ok u
       → (C × D → checked ≡ Err found)

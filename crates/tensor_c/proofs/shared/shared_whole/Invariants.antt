@@ -1,4 +1,4 @@
--- What is worked out of the bindings so far.
+-- What the bindings so far compute.
 use Rattle.std.proofs.Common.{◌≡◌, ◌≤◌, ◌*◌, take}
 use Rattle.expr_reader.specs.Asked.{asked_under}
 use Rattle.expr_reader.specs.Bindings.{terms_under, nodes_in}

@@ -1,5 +1,5 @@
-//! Thirty-two rows of the result and a band of its columns, whose values Strassen's products of
-//! halves make up.
+//! Thirty-two rows of the result and a band of its columns, whose values are sums and differences
+//! of Strassen's seven products. specs/private/Strassen defines which.
 
 ghost use Rattle.std.specs.Prelude.{◌≡◌, ℕ, ◌*◌, ◌+◌, ◌-ℤ◌, ◌/◌, ◌%◌, ◌<◌, ◌≤◌, ◌+ℤ◌, length};
 ghost use Rattle.tensor_shape.specs.Wrap.{wrap};
@@ -10,17 +10,17 @@ use crate::tiling::placing::Tile;
 use crate::tiling::strassen::factors::{minus, plus};
 use crate::tiling::strassen::products::Products;
 
-/// Two panels of rows, and the columns of a band.
+/// Two panels of rows, in the columns of a band.
 #[derive(Drop)]
 pub(crate) struct Block<'a> {
-    /// Of which group of pairs of chunks. The sums of group 0 are put where they belong, those of later
-    /// ones added.
+    /// The number of the group of pairs of chunks. The sums of group 0 overwrite, the sums of later
+    /// ones are added.
     pub(crate) number: usize,
     pub(crate) rows: usize,
     pub(crate) columns: usize,
-    /// How many columns the first half of the band has.
+    /// The number of columns in the first half of the band.
     pub(crate) half: usize,
-    /// Which two panels of the rows these are.
+    /// The block's number: its panels are `2 * block` and the next one.
     pub(crate) block: usize,
     pub(crate) products: &'a Products,
 }
@@ -29,7 +29,8 @@ impl Block<'_> {
     ghost use Rattle.tensor_kernels.specs.private.Strassen.{IsBlock, IsPutInBlock, IsPutInColumn};
     ghost use Rattle.tensor_kernels.specs.private.Strassen.{quadrant_value, IsPutInPanel};
 
-    /// Writes the sums of the products to places of the columns, from one on. All else stays.
+    /// Writes the block's sums to the places of the band from `from` on. Other places stay as they
+    /// are.
     pub(crate) fn put(&self, from: usize, out: &mut [i64])
         requires block { IsBlock self.now }
         requires inside { from + length out.old ≤ self.now.columns * self.now.rows }
@@ -44,7 +45,7 @@ impl Block<'_> {
         }
     }
 
-    /// Writes the sums of one column. All else stays.
+    /// Writes the block's sums in column `j`. Other places stay as they are.
     fn put_column(&self, j: usize, from: usize, out: &mut [i64])
         requires block { IsBlock self.now }
         requires column { j < self.now.columns }
@@ -59,7 +60,8 @@ impl Block<'_> {
         }
     }
 
-    /// Writes the sums of the first of the two panels' rows in a column, or of the second's.
+    /// Writes the sums of panel `r` of the block, 0 or 1, in column `j`. Other places stay as they
+    /// are.
     fn put_panel(&self, r: usize, j: usize, from: usize, out: &mut [i64])
         requires block { IsBlock self.now }
         requires panel { r < 2 }
@@ -81,7 +83,7 @@ impl Block<'_> {
         }
     }
 
-    /// The sums of a panel's rows and a column.
+    /// Returns the sums of panel `r` of the block in column `j`.
     fn sums(&self, r: usize, j: usize) -> [i64; 16]
         requires block { IsBlock self.now }
         requires panel { r < 2 }
@@ -103,7 +105,7 @@ impl Block<'_> {
     }
 }
 
-/// Sixteen sums of two products, from a place on.
+/// Returns sixteen sums of values of two products, from place `k` on.
 fn two(x: &[i64], y: &[i64], k: usize) -> [i64; 16]
     requires x { k + 16 ≤ length x.now }
     requires y { k + 16 ≤ length y.now }
@@ -118,7 +120,7 @@ fn two(x: &[i64], y: &[i64], k: usize) -> [i64; 16]
     sums
 }
 
-/// Sixteen sums of three products, less a fourth, from a place on.
+/// Returns sixteen sums of values of three products less a fourth, from place `k` on.
 fn three_less_one(x: &[i64], y: &[i64], z: &[i64], w: &[i64], k: usize) -> [i64; 16]
     requires x { k + 16 ≤ length x.now }
     requires y { k + 16 ≤ length y.now }
@@ -136,7 +138,7 @@ fn three_less_one(x: &[i64], y: &[i64], z: &[i64], w: &[i64], k: usize) -> [i64;
     sums
 }
 
-/// The sum of three numbers, less a fourth, modulo 2^64.
+/// Returns `x + y + z - w`, modulo 2^64.
 #[inline(always)]
 fn plus_minus(x: i64, y: i64, z: i64, w: i64) -> i64
     ensures { result ≡ wrap (wrap (wrap (x +ℤ y) +ℤ z) -ℤ w) }
@@ -144,7 +146,7 @@ fn plus_minus(x: i64, y: i64, z: i64, w: i64) -> i64
     minus(plus(plus(x, y), z), w)
 }
 
-/// In which of two halves a column is, and which one of these. A division would take longer.
+/// Returns the half that column `j` is in, and its number there. A division would take longer.
 #[inline(always)]
 fn in_half(j: usize, half: usize) -> (usize, usize)
     requires { j < 2 * half }

@@ -1,5 +1,5 @@
 //! The factors of Strassen's seven products: quarters of an operand, and sums and differences of
-//! two of them, modulo 2^64.
+//! two quarters, modulo 2^64. specs/private/Strassen defines which.
 
 ghost use Rattle.std.specs.Prelude.{◌≡◌, ℕ, ◌+ℤ◌, ◌-ℤ◌, ◌<◌, length, IfOk};
 ghost use Rattle.tensor_shape.specs.Wrap.{wrap};
@@ -13,7 +13,7 @@ use crate::tiling::strassen::half::Half;
 use crate::tiling::strassen::quarters::{Quarter, Quarters};
 use std::alloc::{AllocError, Global};
 
-/// A factor of each of the products, as panels.
+/// An operand's factor of each of the seven products, as panels.
 #[derive(Drop)]
 pub(crate) struct Factors {
     pub(crate) m1: Panels,
@@ -28,7 +28,7 @@ pub(crate) struct Factors {
 impl Factors {
     ghost use Rattle.tensor_kernels.specs.private.Strassen.{AreFirstFactors, AreSecondFactors};
 
-    /// Those that the first operand gives.
+    /// Returns the factors of the first operand.
     pub(crate) fn of_first(alloc: Global, rows: &Quarters) -> Result<Factors, AllocError>
         ensures { IfOk result (AreFirstFactors rows.now) }
     {
@@ -52,7 +52,7 @@ impl Factors {
         })
     }
 
-    /// Those that the second operand gives.
+    /// Returns the factors of the second operand.
     pub(crate) fn of_second(alloc: Global, columns: &Quarters) -> Result<Factors, AllocError>
         ensures { IfOk result (AreSecondFactors columns.now) }
     {
@@ -73,7 +73,7 @@ impl Factors {
     }
 }
 
-/// A quarter by itself.
+/// Returns a copy of a quarter as a factor.
 fn alone(alloc: Global, half: Half, x: &[i64]) -> Result<Panels, AllocError>
     requires len { length x.now ≡ half_size half }
     ensures { IfOk result (λ panels. IsFactor half panels (value_in x.now)) }
@@ -84,7 +84,7 @@ fn alone(alloc: Global, half: Half, x: &[i64]) -> Result<Panels, AllocError>
     Ok(panels)
 }
 
-/// The sum of two quarters.
+/// Returns the sum of two quarters as a factor.
 fn sum(alloc: Global, half: Half, x: &[i64], y: &[i64]) -> Result<Panels, AllocError>
     requires len { length x.now ≡ half_size half }
     requires other { length y.now ≡ half_size half }
@@ -99,7 +99,7 @@ fn sum(alloc: Global, half: Half, x: &[i64], y: &[i64]) -> Result<Panels, AllocE
     Ok(panels)
 }
 
-/// A quarter less another.
+/// Returns the difference of two quarters as a factor.
 fn difference(alloc: Global, half: Half, x: &[i64], y: &[i64]) -> Result<Panels, AllocError>
     requires len { length x.now ≡ half_size half }
     requires other { length y.now ≡ half_size half }
@@ -114,7 +114,7 @@ fn difference(alloc: Global, half: Half, x: &[i64], y: &[i64]) -> Result<Panels,
     Ok(panels)
 }
 
-/// These cells, with the sums of the products of each row's pairs.
+/// Returns a factor with the given cells, and with the sums of the products of each row's pairs.
 fn factor(alloc: Global, half: Half, cells: Vec<i64>) -> Result<Panels, AllocError>
     requires { length cells.items ≡ half_size half }
     ensures { IfOk result (λ panels. IsFactor half panels (value_in cells.items)) }
@@ -123,7 +123,7 @@ fn factor(alloc: Global, half: Half, cells: Vec<i64>) -> Result<Panels, AllocErr
     Ok(Panels { cells, sums })
 }
 
-/// The sum of two numbers, modulo 2^64.
+/// Returns `x + y`, modulo 2^64.
 #[inline(always)]
 pub(crate) fn plus(x: i64, y: i64) -> i64
     ensures { result ≡ wrap (x +ℤ y) }
@@ -131,7 +131,7 @@ pub(crate) fn plus(x: i64, y: i64) -> i64
     x.wrapping_add(y)
 }
 
-/// A number less another, modulo 2^64.
+/// Returns `x - y`, modulo 2^64.
 #[inline(always)]
 pub(crate) fn minus(x: i64, y: i64) -> i64
     ensures { result ≡ wrap (x -ℤ y) }

@@ -1,8 +1,8 @@
-//! Half of the rows of an operand, in panels.
+//! The size of half of the rows of an operand, in panels. Quarters and factors have this size.
 
 ghost use Rattle.std.specs.Prelude.{◌≡◌, ◌*◌, ◌<◌, ◌≤◌};
 
-/// How many panels half of the rows have, and how high these are. A chunk has 128 products.
+/// The number of panels of half of the rows, and the height of a panel. A chunk has 128 products.
 #[derive(Clone, Copy, Drop)]
 pub(crate) struct Half {
     pub(crate) panels: usize,
@@ -15,7 +15,7 @@ pub(crate) struct Half {
 impl Half {
     ghost use Rattle.tensor_kernels.specs.private.Quartering.{half_size};
 
-    /// How many cells a quarter has.
+    /// Returns the number of cells of a quarter.
     pub(crate) fn size(self) -> usize
         ensures cells { result ≡ half_size self }
         ensures few { result ≤ 32768 }

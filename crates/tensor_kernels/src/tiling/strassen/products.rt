@@ -1,5 +1,5 @@
-//! Strassen's seven products of sixteen rows and half of a band's columns, added up over pairs of
-//! chunks.
+//! Strassen's seven products of sixteen rows and half of a band's columns, added up over the pairs
+//! of chunks of a group. `block` reads them.
 
 ghost use Rattle.std.specs.Prelude.{◌≡◌, ℕ, ◌*◌, ◌+ℤ◌, ◌<◌, ◌≤◌, length, IfOk};
 ghost use Rattle.tensor_shape.specs.Wrap.{wrap};
@@ -14,7 +14,7 @@ use crate::tiling::placing::add_run;
 use crate::tiling::strassen::factors::Factors;
 use std::alloc::{AllocError, Global};
 
-/// The products, each with the values of sixteen rows for each column.
+/// The seven products. Each has sixteen values, one a row, for each column.
 #[derive(Drop)]
 pub(crate) struct Products {
     pub(crate) m1: Vec<i64>,
@@ -29,7 +29,7 @@ pub(crate) struct Products {
 impl Products {
     ghost use Rattle.tensor_kernels.specs.private.Strassen.{AreAdded, AreLong, ArePanels};
 
-    /// Room for those of so many columns.
+    /// Returns room for the products of `n` columns.
     pub(crate) fn of(alloc: Global, n: usize) -> Result<Products, AllocError>
         requires { n ≤ 256 }
         ensures { IfOk result (AreLong (16 * n)) }
@@ -45,8 +45,7 @@ impl Products {
         })
     }
 
-    /// Adds the products of the factors of sixteen rows and of so many columns: those of pair 0 are
-    /// put there, those of later ones added.
+    /// Adds the products of sixteen rows and `n` columns in a pair of chunks. Pair 0 overwrites.
     pub(crate) fn add(&mut self, pair: usize, rows: &Factors, columns: &Factors, n: usize)
         requires few { n ≤ 256 }
         requires long { AreLong (16 * n) self.old }
@@ -64,7 +63,8 @@ impl Products {
     }
 }
 
-/// Adds the sums of 128 products of each of sixteen rows and each of n columns.
+/// Adds one of the seven products: for each of sixteen rows and each of `n` columns a sum of 128
+/// products.
 fn add_product(pair: usize, rows: &Panels, columns: &Panels, n: usize, sums: &mut [i64])
     requires few { n ≤ 256 }
     requires long { length sums.old ≡ 16 * n }

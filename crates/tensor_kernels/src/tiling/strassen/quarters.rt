@@ -1,5 +1,5 @@
-//! Rows of an operand in two chunks of the products, packed and cut into quarters: the first half of
-//! the rows and the second, each in the earlier chunk and in the later one.
+//! Rows of an operand in two chunks of the products, packed and cut into quarters: each half of the
+//! rows in each chunk. `factors` are made of these.
 
 ghost use Rattle.std.specs.Prelude.{◌≡◌, ℕ, ◌*◌, ◌+◌, ◌<◌, ◌≤◌, length, IfOk};
 ghost use Rattle.tensor_values.specs.Values.{value_in};
@@ -11,7 +11,7 @@ use crate::tiling::strassen::half::Half;
 use std::alloc::{AllocError, Global};
 use tensor_dots::RowsPart;
 
-/// Which quarter: of the first half of the rows or of the second, in the earlier chunk or the later.
+/// A quarter of an operand: one half of its rows, in the earlier chunk or in the later one.
 #[derive(Clone, Copy, Drop)]
 pub(crate) enum Quarter {
     FirstEarlier,
@@ -20,7 +20,7 @@ pub(crate) enum Quarter {
     SecondLater,
 }
 
-/// The panels of all these rows, of the earlier chunk and of the later one.
+/// The panels of both halves of the rows, in the earlier chunk and in the later one.
 #[derive(Drop)]
 pub(crate) struct Quarters {
     pub(crate) half: Half,
@@ -33,8 +33,8 @@ pub(crate) struct Quarters {
 impl Quarters {
     ghost use Rattle.tensor_kernels.specs.private.Strassen.{cell};
 
-    /// The values of these rows in chunk c of their products and in the next one, up to whole halves.
-    /// Takes a cell for each, and a number for each row.
+    /// Packs the rows of a part in chunk `c` and in the next one, filled up to whole halves by
+    /// copies of the last row. Takes a cell for each value, and a number for each row.
     pub(crate) fn of(
         alloc: Global,
         half: Half,
@@ -57,7 +57,7 @@ impl Quarters {
         })
     }
 
-    /// The cells of one quarter.
+    /// Returns the cells of one quarter.
     pub(crate) fn quarter(&self, which: Quarter) -> &[i64]
         ensures len { length result.now ≡ half_size self.now.half }
         ensures each { (p : ℕ) → p < half_size self.now.half
@@ -73,7 +73,8 @@ impl Quarters {
     }
 }
 
-/// The values of these rows in chunk c of their products, in panels, up to two whole halves.
+/// Returns the rows of a part in chunk `c`, in panels, filled up to whole halves by copies of the
+/// last row.
 fn chunk_cells(
     alloc: Global,
     half: Half,

@@ -30,14 +30,14 @@ returns-in_ok-over-in-Binary t c =
     let node = c.new-node-in-Binary in
     IfOk-then c.split_off-in-Binary.result _ _
     (λ rest done.
-    cut-binary c.args.inputs.now.tensors c.args.whole c.combines_two-combining.result
+    cut-binary c.args.inputs.now.tensors c.args.whole c.combines-combining-in-Binary.result
     (binary_at c.in-Binary.operation) (term_of c.in-Binary.a.now)
     (term_of c.in-Binary.b.now) (term_of c.args.expr.now) (term_of u.result.0) (term_of v.result.0)
     c.args.steps.now.items
     c.cut-in-Binary.new.steps.items c.cut-in-Binary-2.new.steps.items
     c.split_off-in-Binary.new.steps.items
     first.field-0 second.field-0 node.result rest c.in-Binary.ensures
-    c.combines_two-combining.ensures first.ensures second.ensures
+    c.combines-combining-in-Binary.ensures first.ensures second.ensures
     (node.ensures.term ∙ c.in_ok-over-in-Binary.ensures) u.ensures.expr v.ensures.expr
     (c.dims_over-dims-in-Binary.ensures ∙ ap Ok (sym node.ensures.dims)) done)
     c.split_off-in-Binary.ensures

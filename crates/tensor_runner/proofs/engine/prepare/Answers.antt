@@ -1,11 +1,17 @@
+use Rattle.std.proofs.Common.{subst, sym}
 use Rattle.expr_reader.specs.Request.{request_of}
+use Rattle.tensor_runner.specs.Line.{IsLineFrom}
+use Rattle.tensor_runner.specs.Limited.{no_limits}
+use Rattle.tensor_runner.specs.declared.limits.Limits.{Limits}
 use Rattle.tensor_runner.proofs.Unlimited.{refused-none}
 use Rattle.tensor_runner.proofs.engine.prepare.Goals as goal
 
 pub returns-clause-line : goal.returns-clause-line
 returns-clause-line g c = λ text known.
     let read = rw known at c.in_ok-kept.ensures.text in
+    let line : IsLineFrom no_limits text c.answer.result =
+    subst (λ (l : Limits). IsLineFrom l text c.answer.result) c.none.ensures (c.answer.ensures text read.taken) in
     record {
-      answer = (c.answer.ensures text read.taken).own (refused-none c.none.result c.none.ensures (request_of text));
+      answer = line.own (refused-none (request_of text));
       left = read.left;
     }

@@ -1,4 +1,4 @@
--- What the bindings left read is held of the tensors over which they are worked out.
+-- The tensors that the bindings left read are held.
 use Rattle.std.proofs.Common.{◌≡◌, List, drop}
 use Rattle.expr_reader.specs.Bindings.{terms_under}
 use Rattle.expr_reader.specs.Contents.{Contents}

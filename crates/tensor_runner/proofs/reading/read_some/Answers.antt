@@ -11,7 +11,7 @@ returns-clause-taken g c =
     record {
       bytes = take count c.read.new.buffer;
       behind = λ text is.
-          subst (λ (l : List ℕ). IsKept (text ++ l) c.keep.new.self) (take-append-le count c.read.new.buffer _ within.0) (c.keep.ensures text is);
+          subst (λ (l : List ℕ). IsKept (text ++ l) c.keep.new.self) (take-append-le count c.read.new.buffer _ within.0) (c.keep.ensures.kept text is);
       counted = length-take-le count c.read.new.buffer within.0;
       room = omega (arith, c.len.ensures, c.min-room.ensures, within.0, within.1, c.requires);
       consumed = read.0;

@@ -14,7 +14,7 @@ returns-in-Some c =
       parted = sym c.pending-pending.ensures ∙ parted_at held place found.0.high found.1
           ∙ ap (λ (l : List ℕ). take place held ++ 10 ∷ l) (ap (λ (l : List ℕ). drop (place + 1) l) c.pending-pending.ensures ∙ sym c.skip.ensures);
       emptied = λ no. cc;
-      kept = c.keep.ensures;
+      kept = c.keep.ensures.kept;
     }
 
 pub returns-in-None : goal.returns-in-None
@@ -26,5 +26,5 @@ returns-in-None c =
       no_feed = HasNoFeed-all held c.in-None.ensures;
       parted = sym c.pending-pending.ensures ∙ sym (append-nil held) ∙ ap (λ (l : List ℕ). held ++ l) (sym none);
       emptied = λ no. none;
-      kept = c.keep-in-None.ensures;
+      kept = c.keep-in-None.ensures.kept;
     }

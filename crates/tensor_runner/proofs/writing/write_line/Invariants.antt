@@ -1,4 +1,4 @@
--- The front that was written stands behind what was held.
+-- The prefix that was written stands behind what was held.
 use Rattle.std.proofs.Common.{◌≡◌, ◌≤◌, ◌-◌, length, take}
 use Rattle.std.specs.Io.KnownBytes.{Appends}
 use Rattle.tensor_runner.proofs.writing.write_line.Given as goal

@@ -3,7 +3,7 @@ use Rattle.std.proofs.Math.Nat.{mod-add-div}
 use Rattle.tensor_views.proofs.Views.{index-of_row}
 use Rattle.tensor_views.proofs.mapping.next_rest.Goals as goal
 
--- what is left where so many spans are taken off
+-- the remainder of a place, given its number of spans
 left : (span q rest place : ℕ) → rest < span → place ≡ rest + span * q → rest ≡ place % span
 left span q rest place below at = sym (ap (λ n. n % span) at ∙ index-of_row span q rest below)
 

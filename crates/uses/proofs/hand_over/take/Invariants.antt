@@ -2,7 +2,7 @@ use Rattle.std.proofs.Common.{◌≡◌}
 use Rattle.rtrb.specs.Ring.{received, SameConsumer}
 use Rattle.uses.proofs.hand_over.take.Given as goal
 
--- the same ring, of which nothing was moved
+-- the ring is unchanged, and nothing was moved
 abbrev pub invariant-loop : goal.invariant-loop
 invariant-loop g l = record {
   can : (goal.iterator-loop g).can_next l.iterator';

@@ -1,4 +1,5 @@
-//! How what a worker works with comes home.
+//! The state of a worker that has come home, and what became of the worker's start. Only this file
+//! makes a `Home`, so the number of joined threads can be trusted (`joined_of` of `specs/Starts`).
 ghost use Rattle.std.specs.Prelude.{◌≡◌};
 ghost use Rattle.worker_pool.specs.declared.opening.start.home.Start.TheVariants.{Joined, Refused};
 ghost use Rattle.worker_pool.specs.declared.opening.start.home.Start.TheVariants.{NotAsked};
@@ -16,8 +17,8 @@ enum Start {
     NotAsked,
 }
 
-/// What a worker works with, come home. Nobody else says of it that a thread was joined: only the
-/// thread that brings it, and only where it is joined.
+/// The state of a worker that has come home. It says that a thread was joined only if this file has
+/// joined that thread.
 #[derive(Drop)]
 pub(crate) struct Home<X> {
     pub(crate) state: X,
@@ -25,7 +26,7 @@ pub(crate) struct Home<X> {
 }
 
 impl<X> Home<X> {
-    /// From a thread, which is joined.
+    /// Joins the thread, and returns the state that it ended with.
     pub(super) fn joined<RT: Threads, P: Promise<X>>(rt: &RT, child: PromisedHandle<X, P>) -> Self
         ensures start { result.start ≡ Joined }
         ensures kept { P.kept_by child.promise result.state }
@@ -36,7 +37,7 @@ impl<X> Home<X> {
         }
     }
 
-    /// From a worker for which no thread could be made. What the thread was to run is called.
+    /// Calls the function whose thread could not be started, and returns the state that it gives.
     pub(super) fn refused<F: FnOnce() -> X>(refused: SpawnError<F>) -> Self
         requires { F.pre refused.value }
         ensures start { result.start ≡ Refused }
@@ -48,7 +49,7 @@ impl<X> Home<X> {
         }
     }
 
-    /// From a worker for which no thread was asked for.
+    /// Returns the state of a worker for which no thread was asked for.
     pub(super) fn not_asked(state: X) -> Self
         ensures { result ≡ record { state = state; start = NotAsked } }
     {

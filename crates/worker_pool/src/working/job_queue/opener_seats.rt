@@ -1,4 +1,5 @@
-//! What the thread that opened a pool does at the rows and at the point.
+//! What the opener (the thread that opened the pool) does at the rows and at the wait point.
+//! `announcing` and `told` carry the wake order of `specs/Told` and `specs/Callers`.
 ghost use Rattle.std.specs.Prelude.{◌≡◌, ◌<◌, IfErr, is_ok, false};
 ghost use Rattle.run_queue.specs.Account.{AddsIfOk};
 ghost use Rattle.worker_pool.specs.Seats.{IsOpener};
@@ -15,12 +16,12 @@ use std::alloc::Allocator;
 use std::marker::PhantomData;
 use std::sync::Wait;
 
-/// The seats of the thread that opened a pool.
+/// The seats of the opener at the rows and at the wait point.
 #[derive(Drop)]
 pub(crate) struct OpenerSeats<J, A: Allocator, W: WaitPoint<A>, R: Rows<J, A>> {
     pub(crate) row: R::Seat,
     pub(crate) waker: W::Seat,
-    /// Whether it has put a job in since it last woke somebody.
+    /// Whether the opener has put a job in since it last woke a worker.
     announcing: bool,
     pub(crate) random: Lcg64Xsh32,
     /// How many workers were started.
@@ -29,7 +30,7 @@ pub(crate) struct OpenerSeats<J, A: Allocator, W: WaitPoint<A>, R: Rows<J, A>> {
 }
 
 impl<J, A: Allocator, W: WaitPoint<A>, R: Rows<J, A>> OpenerSeats<J, A, W, R> {
-    /// The seats in a pool of which no worker was started.
+    /// Returns the opener's seats in a pool in which no worker was started yet.
     pub(crate) fn new(row: R::Seat, waker: W::Seat, random: Lcg64Xsh32) -> Self
         ensures row { result.row ≡ row }
         ensures waker { result.waker ≡ waker }
@@ -47,8 +48,8 @@ impl<J, A: Allocator, W: WaitPoint<A>, R: Rows<J, A>> OpenerSeats<J, A, W, R> {
         }
     }
 
-    /// Puts a job in at the back of a row, or gives it back. For a job that is in, somebody is to be
-    /// woken.
+    /// Puts a job in at the back of a row, or returns it if the row is full. If it was put in, a
+    /// worker is to be woken. Some worker was started, since nobody else takes the job.
     pub(crate) fn put_back<RT: Wait>(
         &mut self,
         rt: &RT,
@@ -58,6 +59,7 @@ impl<J, A: Allocator, W: WaitPoint<A>, R: Rows<J, A>> OpenerSeats<J, A, W, R> {
     ) -> Result<(), J>
         requires seats { IsOpener R.Rows W.WaitPoint queue.now self.old.row self.old.waker }
         requires silent { self.old.announcing ≡ false }
+        requires some { 0 < self.old.started }
         requires row { row < R.row_count queue.now.rows }
         ensures seats { IsOpener R.Rows W.WaitPoint queue.now self.new.row self.new.waker }
         ensures announcing { self.new.announcing ≡ is_ok result }
@@ -72,7 +74,7 @@ impl<J, A: Allocator, W: WaitPoint<A>, R: Rows<J, A>> OpenerSeats<J, A, W, R> {
         Ok(())
     }
 
-    /// Wakes one of those that wait, if there is one.
+    /// Wakes one waiting worker, if there is one.
     pub(crate) fn wake_one<RT: Wait>(&mut self, rt: &RT, queue: &JobQueue<W, R>)
         requires seats { IsOpener R.Rows W.WaitPoint queue.now self.old.row self.old.waker }
         ensures seats { IsOpener R.Rows W.WaitPoint queue.now self.new.row self.new.waker }
@@ -84,7 +86,7 @@ impl<J, A: Allocator, W: WaitPoint<A>, R: Rows<J, A>> OpenerSeats<J, A, W, R> {
         self.announcing = false;
     }
 
-    /// Wakes all that wait. They are told of what is stored in the stop word.
+    /// Wakes all waiting workers, and returns what this thread had stored in the stop word before.
     pub(crate) fn wake_all<RT: Wait>(
         &mut self,
         rt: &RT,

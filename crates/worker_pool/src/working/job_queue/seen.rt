@@ -1,4 +1,5 @@
-//! What a worker has found since it entered.
+//! What a worker has found since it entered the wait point. `specs/Seen` has the same states, and
+//! the clauses on sleeping and ending rest on them.
 ghost use Rattle.std.specs.Prelude.{◌≡◌, ◌≢◌, ◌↔◌, ◌<◌, ◌==◌, IsTrue, not};
 ghost use Rattle.worker_pool.specs.Seen.{none_seen, has_passed, after_look, after_stop_look};
 ghost use Rattle.worker_pool.specs.Stops.{IsStopSeatOf, jobs_of, stored_of, found_of, open_word};
@@ -9,23 +10,23 @@ use run_queue::{MOST_ROWS, Rows};
 use std::alloc::Allocator;
 use std::sync::Wait;
 
-/// How many rows there are at most.
+/// The most rows that a pool can have.
 const ROWS: usize = MOST_ROWS as usize;
 
-/// Which rows a worker has found empty since it entered and last looked at the stop word, and what
-/// it found there.
+/// Which rows a worker has found empty since it entered and last loaded the stop word, and what it
+/// found in the stop word.
 #[derive(Drop)]
 pub(crate) struct Seen {
-    /// Of each row, whether the last look at it found no job.
+    /// Whether the last look at each row found no job, by row.
     rows: [bool; ROWS],
-    /// Whether the last look at the stop word found that the pool is open.
+    /// Whether the last look at the stop word found the pool open.
     flag: bool,
-    /// Whether it found that the pool is closing or cancelled.
+    /// Whether the last look at the stop word found the pool closing or cancelled.
     stopped: bool,
 }
 
 impl Seen {
-    /// It has looked at nothing.
+    /// Returns the state of a worker that has looked at nothing.
     pub(crate) fn nothing() -> Self
         ensures { result ≡ none_seen }
     {
@@ -36,7 +37,7 @@ impl Seen {
         }
     }
 
-    /// Looks at a row, passes it where there is no job in it, and answers how many there are.
+    /// Loads the length of a row, records whether it is 0, and returns it.
     pub(crate) fn look<RT: Wait, J, A: Allocator, R: Rows<J, A>>(
         &mut self,
         rt: &RT,
@@ -59,8 +60,8 @@ impl Seen {
         length
     }
 
-    /// Looks at the stop word, passes it where the pool is open, and answers whether it isn't. From
-    /// here on it has yet to look at the rows.
+    /// Loads the stop word, and returns whether the pool is closing or cancelled. It forgets the
+    /// looks at rows: each row is to be looked at again.
     pub(crate) fn look_at_stop<J>(&mut self, stop: &StopWord<J>, seat: &mut StopSeat<J>) -> bool
         requires { IsStopSeatOf stop.now seat.old }
         ensures seen { self.new ≡ after_stop_look (found_of seat.new) }

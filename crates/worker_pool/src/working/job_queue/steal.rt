@@ -1,4 +1,4 @@
-//! How a thief goes over the rows.
+//! How a worker walks over the rows of others, to steal a job or to look for one.
 ghost use Rattle.std.specs.Prelude.{◌≡◌, ◌<◌, ◌≤◌, All, IfSome, IsNone, option_to_list, ◌++◌};
 ghost use Rattle.std.specs.Prelude.{true};
 ghost use Rattle.run_queue.specs.Limits.{most_rows};
@@ -35,7 +35,7 @@ pub(super) fn steal<RT: Wait, J, A: Allocator, R: Rows<J, A>>(
 }
 
 impl Seen {
-    /// The first row of the walk in which a job was seen. All rows are looked at.
+    /// Looks at all rows of the walk, and returns the first in which it saw a job.
     pub(super) fn first_full<RT: Wait, J, A: Allocator, R: Rows<J, A>>(
         &mut self,
         rt: &RT,

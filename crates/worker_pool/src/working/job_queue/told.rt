@@ -1,4 +1,5 @@
-//! What those that wait were last told of the stop word.
+//! What the opener had stored in the stop word when it last woke all workers. Contracts alone use
+//! it: `specs/Told` compares it with what is stored now.
 ghost use Rattle.std.specs.Prelude.{◌≡◌};
 ghost use Rattle.worker_pool.specs.Stops.{stored_of, open_word};
 ghost use Rattle.worker_pool.specs.Told.{told_of};
@@ -6,15 +7,15 @@ ghost use Rattle.worker_pool.specs.Told.{told_of};
 use crate::working::stop::StopSeat;
 use std::snapshot::Snapshot;
 
-/// What the thread that opened a pool had stored in the stop word when it last woke all. It takes
-/// no room: contracts alone see it.
+/// What the opener had stored in the stop word when it last woke all workers. It takes no memory:
+/// contracts alone see it.
 #[derive(Drop)]
 pub(crate) struct Told<J> {
     seat: Snapshot<StopSeat<J>>,
 }
 
 impl<J> Told<J> {
-    /// Nobody was told of anything, and nothing was stored.
+    /// Returns the value for a new pool: nothing was stored in the stop word.
     pub(crate) fn nothing(seat: &StopSeat<J>) -> Self
         requires { stored_of seat.now ≡ open_word }
         ensures { told_of result ≡ open_word }
@@ -24,7 +25,7 @@ impl<J> Told<J> {
         }
     }
 
-    /// All were woken after the seat had stored what it has.
+    /// Returns the value once all workers were woken after the seat's last store.
     pub(super) fn all(seat: &StopSeat<J>) -> Self
         ensures { told_of result ≡ stored_of seat.now }
     {

@@ -1,4 +1,5 @@
-//! What a worker does at the rows and at the point.
+//! What a worker does at the rows and at the wait point. `announcing` and `seen` carry the order of
+//! puts, wakes, looks and sleeps; `working/worker.rt` makes the calls.
 ghost use Rattle.std.specs.Prelude.{◌≡◌, ◌≢◌, ◌↔◌, ◌<◌, ◌++◌, All, IsTrue, IfErr, IfSome, IsNone};
 ghost use Rattle.std.specs.Prelude.{is_ok, option_to_list, true, false, not};
 ghost use Rattle.run_queue.specs.Account.{AddsIfOk};
@@ -18,18 +19,21 @@ use std::marker::PhantomData;
 use std::sync::Wait;
 use steal_walk::Walk;
 
-/// The seats of a worker, and what it knows of those that wait and of the jobs that they wait for.
+/// The seats of a worker at the rows and at the wait point, whether it is to wake a worker, and
+/// what it has found since it entered.
 #[derive(Drop)]
 pub(crate) struct WorkerSeats<J, A: Allocator, W: WaitPoint<A>, R: Rows<J, A>> {
     pub(crate) row: R::Seat,
     pub(crate) waker: W::Seat,
-    /// Whether it has put a job in since it last woke somebody.
+    /// Whether the worker has put a job in since it last woke another worker.
     announcing: bool,
+    /// What the worker has found since it entered the wait point.
     seen: Seen,
     of: PhantomData<(J, A)>,
 }
 
 impl<J, A: Allocator, W: WaitPoint<A>, R: Rows<J, A>> WorkerSeats<J, A, W, R> {
+    /// Returns the seats of a worker that has put in nothing and looked at nothing.
     pub(crate) fn new(row: R::Seat, waker: W::Seat) -> Self
         ensures row { result.row ≡ row }
         ensures waker { result.waker ≡ waker }
@@ -44,8 +48,8 @@ impl<J, A: Allocator, W: WaitPoint<A>, R: Rows<J, A>> WorkerSeats<J, A, W, R> {
         }
     }
 
-    /// Puts a job in at the front of its own row, or gives it back. For a job that is in, somebody
-    /// is to be woken.
+    /// Puts a job in at the front of the worker's own row, or returns it if the row is full. If it
+    /// was put in, a worker is to be woken.
     pub(crate) fn put_front<RT: Wait>(
         &mut self,
         rt: &RT,
@@ -67,7 +71,7 @@ impl<J, A: Allocator, W: WaitPoint<A>, R: Rows<J, A>> WorkerSeats<J, A, W, R> {
         Ok(())
     }
 
-    /// Wakes one of those that wait, if there is one.
+    /// Wakes one waiting worker, if there is one.
     pub(crate) fn wake_one<RT: Wait>(&mut self, rt: &RT, queue: &JobQueue<W, R>)
         requires seats { IsOwner R.Rows W.WaitPoint queue.now self.old.row self.old.waker }
         ensures seats { IsOwner R.Rows W.WaitPoint queue.now self.new.row self.new.waker }
@@ -78,7 +82,7 @@ impl<J, A: Allocator, W: WaitPoint<A>, R: Rows<J, A>> WorkerSeats<J, A, W, R> {
         self.announcing = false;
     }
 
-    /// Takes a job out at the front of its own row.
+    /// Takes the job at the front of the worker's own row, if there is one.
     pub(crate) fn take_front<RT: Wait>(&mut self, rt: &RT, queue: &JobQueue<W, R>) -> Option<J>
         requires seats { IsOwner R.Rows W.WaitPoint queue.now self.old.row self.old.waker }
         ensures seats { IsOwner R.Rows W.WaitPoint queue.now self.new.row self.new.waker }
@@ -90,7 +94,7 @@ impl<J, A: Allocator, W: WaitPoint<A>, R: Rows<J, A>> WorkerSeats<J, A, W, R> {
         queue.rows.take_front(rt, &mut self.row)
     }
 
-    /// Takes a job out at the back of a row.
+    /// Takes the job at the back of a row, if there is one.
     pub(crate) fn take_back<RT: Wait>(
         &mut self,
         rt: &RT,
@@ -126,8 +130,8 @@ impl<J, A: Allocator, W: WaitPoint<A>, R: Rows<J, A>> WorkerSeats<J, A, W, R> {
         steal(rt, &queue.rows, &mut self.row, walk)
     }
 
-    /// It is about to wait: from now on it is woken. It has yet to look at each row and at the stop
-    /// word.
+    /// Enters the wait point: from now on the worker can be woken. It has yet to look at each row
+    /// and at the stop word.
     pub(crate) fn enter<RT: Wait>(&mut self, rt: &RT, queue: &JobQueue<W, R>)
         requires seats { IsOwner R.Rows W.WaitPoint queue.now self.old.row self.old.waker }
         requires silent { self.old.announcing ≡ false }
@@ -140,7 +144,7 @@ impl<J, A: Allocator, W: WaitPoint<A>, R: Rows<J, A>> WorkerSeats<J, A, W, R> {
         self.seen = Seen::nothing();
     }
 
-    /// Whether the pool is closing or cancelled.
+    /// Loads the stop word, and returns whether the pool is closing or cancelled.
     pub(crate) fn look_at_stop(&mut self, stop: &StopWord<J>, seat: &mut StopSeat<J>) -> bool
         requires { IsStopSeatOf stop.now seat.old }
         ensures seen { self.new.seen ≡ after_stop_look (found_of seat.new) }
@@ -157,7 +161,7 @@ impl<J, A: Allocator, W: WaitPoint<A>, R: Rows<J, A>> WorkerSeats<J, A, W, R> {
         self.seen.look_at_stop(stop, seat)
     }
 
-    /// The first row of the walk in which it sees a job. It looks at all of them.
+    /// Looks at all rows of the walk, and returns the first in which it saw a job.
     pub(crate) fn first_full<RT: Wait>(
         &mut self,
         rt: &RT,
@@ -179,7 +183,8 @@ impl<J, A: Allocator, W: WaitPoint<A>, R: Rows<J, A>> WorkerSeats<J, A, W, R> {
         self.seen.first_full(rt, &queue.rows, &mut self.row, walk)
     }
 
-    /// Waits until it is woken. Since it entered it has found each row empty and the pool open.
+    /// Sleeps until the worker is woken. Since it entered, it has found each row empty and the pool
+    /// open.
     pub(crate) fn sleep<RT: Wait>(&mut self, rt: &RT, queue: &JobQueue<W, R>)
         requires entered { HasEntered R.Rows W.WaitPoint queue.now self.old.row self.old.waker }
         requires passed { HasPassedRows (R.row_count queue.now.rows) self.old.seen }
@@ -191,7 +196,7 @@ impl<J, A: Allocator, W: WaitPoint<A>, R: Rows<J, A>> WorkerSeats<J, A, W, R> {
         queue.point.sleep(rt, &mut self.waker);
     }
 
-    /// Gives up waiting.
+    /// Leaves the wait point without sleeping.
     pub(crate) fn leave<RT: Wait>(&mut self, rt: &RT, queue: &JobQueue<W, R>)
         requires entered { HasEntered R.Rows W.WaitPoint queue.now self.old.row self.old.waker }
         ensures seats { IsOwner R.Rows W.WaitPoint queue.now self.new.row self.new.waker }

@@ -1,4 +1,5 @@
-//! How the thread that opened a pool passes jobs on.
+//! How the opener of a pool passes jobs on. The put comes before the wake, which `announcing`
+//! records. No contract of `pass` says into which row a job goes.
 ghost use Rattle.std.specs.Prelude.{◌≡◌, ℕ, ◌+◌, ◌<◌, ◌≤◌, List};
 ghost use Rattle.steal_walk.specs.Walk.{place_of};
 
@@ -10,7 +11,7 @@ use run_queue::Rows;
 use std::alloc::Allocator;
 use std::sync::Wait;
 
-// It has woken somebody for what it passed on.
+// An opener is ready if it has woken a worker for each job that it has passed on.
 impl<J, A: Allocator, W: WaitPoint<A>, R: Rows<J, A>> Passes<J> for OpenerSeats<J, A, W, R> {
     ghost use Rattle.std.specs.Prelude.{◌≡◌, false};
     ghost use Rattle.worker_pool.specs.Seats.{IsOpener};
@@ -28,7 +29,8 @@ impl<J, A: Allocator, W: WaitPoint<A>, R: Rows<J, A>> Passes<J> for OpenerSeats<
 
     ghost takes_of = { λ seats. R.takes_of seats.row };
 
-    /// To the back of a row that a random word picks, where a worker was started.
+    /// Passes the job to the back of a row that a random word picks, and wakes a worker. Returns
+    /// the job if the row is full or no worker was started.
     fn pass<RT: Wait>(&mut self, rt: &RT, queue: &JobQueue<W, R>, job: J) -> Result<(), J> {
         if self.started == 0 {
             return Err(job);
@@ -40,7 +42,7 @@ impl<J, A: Allocator, W: WaitPoint<A>, R: Rows<J, A>> Passes<J> for OpenerSeats<
     }
 }
 
-/// The row that stands among the rows where the word stands among the words of 32 bits.
+/// Returns the row whose number is `word * rows / 2^32`, rounded down.
 fn row_at(word: u32, rows: u16) -> u16
     requires { 0 < rows }
     ensures place { result ≡ place_of word rows }

@@ -1,4 +1,4 @@
-//! How a worker passes jobs on.
+//! How a worker passes jobs on. The put comes before the wake, which `announcing` records.
 ghost use Rattle.std.specs.Prelude.{◌≡◌};
 
 use crate::working::job_queue::{JobQueue, WorkerSeats};
@@ -8,7 +8,7 @@ use run_queue::Rows;
 use std::alloc::Allocator;
 use std::sync::Wait;
 
-// It has woken somebody for what it passed on.
+// A worker is ready if it has woken another for each job that it has passed on.
 impl<J, A: Allocator, W: WaitPoint<A>, R: Rows<J, A>> Passes<J> for WorkerSeats<J, A, W, R> {
     ghost use Rattle.std.specs.Prelude.{◌≡◌, false};
     ghost use Rattle.worker_pool.specs.Seats.{IsOwner};
@@ -26,7 +26,8 @@ impl<J, A: Allocator, W: WaitPoint<A>, R: Rows<J, A>> Passes<J> for WorkerSeats<
 
     ghost takes_of = { λ seats. R.takes_of seats.row };
 
-    /// To the front of its own row.
+    /// Passes the job to the front of the worker's own row, and wakes a worker. Returns the job if
+    /// the row is full.
     fn pass<RT: Wait>(&mut self, rt: &RT, queue: &JobQueue<W, R>, job: J) -> Result<(), J> {
         self.put_front(rt, queue, job)?;
         self.wake_one(rt, queue);

@@ -1,4 +1,4 @@
--- The same seat, after looks and lost exchanges.
+-- The seat, after looks and lost exchanges.
 use Rattle.event_count.specs.Seats.{card_of, IsSeatOf}
 use Rattle.event_count.specs.Waits.{IsLater}
 use Rattle.event_count.proofs.count.Count.notify_all.Given as goal

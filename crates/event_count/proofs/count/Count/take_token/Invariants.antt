@@ -1,4 +1,4 @@
--- The same seat, still stacked, after swaps that found no token.
+-- The seat, still stacked, after swaps that found no token.
 use Rattle.std.proofs.Common.{◌≡◌, ◌≤◌}
 use Rattle.event_count.specs.Seats.{card_of, IsSeatOf}
 use Rattle.event_count.specs.Waits.{polled}

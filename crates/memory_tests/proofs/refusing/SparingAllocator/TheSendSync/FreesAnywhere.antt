@@ -1,4 +1,4 @@
--- Any thread may give a block back, where it may give it back to the inner allocator.
+-- Any thread that may free a block of the inner allocator may free it here too.
 use mir.Syntax.{Dict}
 use denote.RattleType.{RattleType}
 use denote.Param.Send.{Frees}

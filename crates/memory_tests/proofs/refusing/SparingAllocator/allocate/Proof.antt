@@ -1,4 +1,4 @@
--- Where `lets_through` answers true it answers what the inner allocator does, else `Err`.
+-- If `lets_through` returns true, the call returns what the inner allocator returns, else `Err`.
 -- Assumes `Logic`.
 use Rattle.std.proofs.Common.{◌≡◌, ℕ, ◌+◌, ◌^◌, ◌<◌, Bool, true, false, List, [], ◌∷◌, Ok, Err}
 use Rattle.std.proofs.Common.{refl, ap, w64, Bor}

@@ -1,4 +1,4 @@
--- The seats' numbers are those of their cards.
+-- The seats have the numbers of their cards.
 use Rattle.std.proofs.Common.{◌+◌, ap, ◌∙◌}
 use Rattle.std.specs.List.{range_with_len}
 use Rattle.event_count.specs.Seats.{sizes_of}

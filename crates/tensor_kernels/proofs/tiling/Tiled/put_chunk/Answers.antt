@@ -29,7 +29,7 @@ slice_bounds-part-end c =
     c.div_ceil-columns.ensures c.requires.within in
     omega (arith, left, ap length c.as_slice.ensures.value)
 
--- of the lists of rows
+-- rows that lie within a list still do in a chunk of their offsets
 inside-of : (values : List ℤ) (starts all offsets : List ℕ) (rows : Rows) (a n c : ℕ)
     → values ≡ cow_slice_items rows.values → starts ≡ rows.starts.items
     → all ≡ rows.offsets.items → offsets ≡ chunk all c

@@ -9,7 +9,7 @@ use Rattle.tensor_values.specs.Scalars.{applied}
 use Rattle.tensor_ops.proofs.Filled.{run-long, run-read, other-read}
 use Rattle.tensor_ops.proofs.lowered.filling.+fill_piece.Goals as goal
 
--- of a list
+-- one operand that is a list
 pub put_applied-requires : goal.put_applied-requires
 put_applied-requires t c =
     c.requires.long
@@ -28,7 +28,7 @@ returns-in-Some-clause-each t c =
     ∙ ap (applied c.in-Unary.operation)
     (run-read from count f list c.in-Some.ensures k inside ∙ ap (λ z. meaning z (from + k)) c.deref.ensures))
 
--- of a list and what needs no memory
+-- an operand that is a list, and another one that needs no memory
 pub put_combined-requires-clause-first : goal.put_combined-requires-clause-first
 put_combined-requires-clause-first t c =
     c.requires.long
@@ -54,7 +54,7 @@ returns-in-Some-Some-clause-each t c =
     (other-read g places c.in-Some-Some.others c.in-Some-Some.ensures' k (omega (arith, inside, length-range_with_len from count))
     ∙ ap g (get_or-range_with_len from count k 0 inside) ∙ ap (λ z. meaning z (from + k)) c.deref-in-Binary-2.ensures))
 
--- of two operands
+-- two operands
 pub combine_at-requires-clause-same : goal.combine_at-requires-clause-same
 combine_at-requires-clause-same t c =
     c.fill_piece-in-Binary.ensures.len ∙ c.requires.long
@@ -80,7 +80,7 @@ returns-in_ok-combine_at-in-Binary-clause-each t c =
     ∙ ap (λ z. o (meaning a (from + k)) (meaning z (get_or places k 0))) c.deref-in-Binary-4.ensures
     ∙ ap (λ p. o (meaning a (from + k)) (meaning b p)) (get_or-range_with_len from count k 0 inside))
 
--- of a chain
+-- a chain
 pub combine_chain-requires : goal.combine_chain-requires
 combine_chain-requires t c =
     c.fill_piece-in-Chain.ensures.len ∙ c.requires.long
@@ -109,7 +109,7 @@ returns-in_ok-operand-in-Chain-clause-each t c =
     ∙ ap (λ z. meaning z (from + k)) c.deref-in-Chain.ensures)
     ∙ ap (λ y. chained links (meaning a (from + k)) y) (run-read from count (meaning b) ys are k inside))
 
--- of three operands
+-- three operands
 pub select-requires-clause-second : goal.select-requires-clause-second
 select-requires-clause-second t c =
     c.fill_piece-in-Select.ensures.len ∙ c.requires.long

@@ -1,4 +1,4 @@
--- What is padded along the first so many axes.
+-- What is padded along the first axes.
 use Rattle.std.proofs.Common.{◌≡◌}
 use Rattle.tensor_terms.specs.Padding.{padded_dims, padded}
 use Rattle.tensor_ops.specs.private.Lowering.{Gives, meaning_at}

@@ -5,7 +5,8 @@ use Rattle.std.proofs.Math.Nat.{mul-le-mul_left, mod-add-div}
 use Rattle.parallel_for.specs.Leaves.{blocks_of}
 use Rattle.tensor_reduce.proofs.running.workers.long_leaf.Goals as goal
 
--- so many places of so many leaves are in no more of them
+-- n places in leaves of block places are in no more than most leaves if most leaves have room for
+-- them
 blocks_of-le : (n block most : ℕ) → n ≤ block * most → 0 < block → blocks_of n block ≤ most
 blocks_of-le n block most within some =
     let whole : n % block + block * (n / block) ≡ n = mod-add-div n block in

@@ -1,4 +1,4 @@
-use Rattle.std.proofs.Common.{◌≡◌, ◌-◌, min, length, ◌++◌, take, ◌∙◌, ap, sym, ℕ, true, arith, length-append}
+use Rattle.std.proofs.Common.{◌≡◌, ◌-◌, min, List, length, ◌++◌, take, ◌∙◌, ap, sym, ℕ, true, arith, length-append}
 use Rattle.std.proofs.lemmas.List.{length-take}
 use Rattle.std.specs.Result.{is_ok}
 use Rattle.tensor_runner.specs.Run.{most_reads}
@@ -6,8 +6,8 @@ use Rattle.tensor_runner.proofs.Parts.{take-behind}
 use Rattle.tensor_runner.proofs.Streams.{kept-len}
 use Rattle.tensor_runner.proofs.kept.KeptText.keep.Goals as goal
 
-pub returns-then-is_ok : goal.returns-then-is_ok
-returns-then-is_ok c = λ line is.
+pub returns-then-is_ok-clause-kept : goal.returns-then-is_ok-clause-kept
+returns-then-is_ok-clause-kept c = λ line is.
     let text = c.in-Text.text.items in
     let piece = c.args.piece.now in
     let own : text ≡ take most_reads line = rw c.in-Text.is at is in
@@ -21,8 +21,8 @@ returns-then-is_ok c = λ line is.
     ap (λ (r : ℕ). text ++ take r piece) room ∙ take-behind most_reads line text piece own in
     items ∙ all
 
-pub returns : goal.returns
-returns c = λ text is.
+pub returns-clause-kept : goal.returns-clause-kept
+returns-clause-kept c = λ text is.
     let piece = c.args.piece.now in
     omega (
       arith,
@@ -32,4 +32,20 @@ returns c = λ text is.
       c.saturating_sub.ensures,
       length-take most_reads (text ++ piece),
       length-append text piece,
+    )
+
+pub returns-then-is_ok-clause-few : goal.returns-then-is_ok-clause-few
+returns-then-is_ok-clause-few c =
+    let text = c.in-Text.text.items in
+    let piece = c.args.piece.now in
+    let well : is_ok c.extend_from_slice.result ≡ true = sym c.is_ok.ensures.value ∙ c.if-is_ok.true in
+    let items = rw well at c.extend_from_slice.ensures.items in
+    let len : c.len-length.result ≡ length text = rw c.in-Text.is at c.len-length.ensures in
+    omega (
+      arith,
+      ap (λ (l : List ℕ). length l) items,
+      length-append text (take c.min-room.result piece),
+      length-take c.min-room.result piece,
+      len,
+      c.if-all-most.true,
     )

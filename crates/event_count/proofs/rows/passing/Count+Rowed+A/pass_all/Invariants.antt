@@ -1,4 +1,4 @@
--- The same pre-waiter, which has passed the flag and the rows so far.
+-- The pre-waiter, which has passed the flag and the rows so far.
 use Rattle.event_word.specs.declared.phase.Phase.TheVariants.{Pre}
 use Rattle.std.proofs.Common.{◌≡◌, None}
 use Rattle.event_count.specs.Kinds.{HasPassed}

@@ -1,0 +1,2 @@
+-- Definitions that only this crate's private clauses and proofs cite.
+pub mod Distance
