@@ -244,6 +244,11 @@ class Threads(unittest.TestCase):
             (LEAST * 9, 4, LEAST * 10, 1),
         ):
             self.assertEqual(parts_worth(x + 1, size, workers, lambda it=shared: it), count)
+        # Values that more operations make are worth parts of fewer values.
+        for operations, size, count in (3, LEAST, 1), (7, LEAST, 2), (19, LEAST, 5), (19, LEAST // 8, 1):
+            chain = sum(range(operations), x)
+            self.assertEqual(parts_worth(chain, size, 8, lambda: 0), count)
+            self.assertEqual(parts_worth(chain, size, 8, lambda it=size: it), 1)
         # Of what combines values into one these count, of what goes along an axis else its own.
         rows = tensor([0] * LEAST * 3, dims=(LEAST, 3))
         for expr, size, shared, count in (

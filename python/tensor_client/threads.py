@@ -8,8 +8,9 @@ from .expressions import Expr
 from .rewriting.mirrored import REDUCTIONS
 from .rules import product
 
-# How many values a part has at least, and an answer of two parts.
-LEAST = 1 << 15
+# How many values a part has at least if the expression has up to FOLD nodes, and an answer of two such
+# parts. If it has more nodes, a part may have fewer values. An operation with a number has three nodes.
+LEAST, FOLD = 1 << 15, 12
 FEWEST = 2 * LEAST
 
 # What combines many values of its operand into one.
@@ -17,17 +18,19 @@ COMBINED = frozenset(REDUCTIONS).union(("argmax", "argmin"))
 
 
 def parts_worth(expr: Expr, size: int, workers: int, shared: Callable[[], int]) -> int:
-    """Into how many parts an answer of `size` values is cut, at most one for each worker: each part
-    is to take no less work than what it computes again, which `shared` returns where there may be
-    several.
+    """Returns into how many parts an answer of `size` values is cut, at most one for each worker.
+    A part takes no less work than what it computes again. `shared` returns how many values that is;
+    it is called if several parts may be worth it.
 
     >>> parts_worth(tensor([1, 2]) + 1, 2, 4, lambda: 0)
     1
     >>> parts_worth(tensor([0] * 65_536).cumsum(), 65_536, 4, lambda: 0)
     2
+    >>> parts_worth(sum(range(1, 20), tensor([0] * 65_536)), 65_536, 4, lambda: 0)
+    4
     """
     values = size * combined(expr)
-    count = max(min(workers, values // LEAST, size), 1)
+    count = max(min(workers, values * -(-expr.nodes // FOLD) // LEAST, size), 1)
     if count > 1:
         count = max(min(count, values * products(expr) // max(shared(), 1)), 1)
     return count
