@@ -223,7 +223,7 @@ def test_memory_refused(refusals, name, onward):
 
 
 LONG = 100_000_000
-LONG_LINES = f"error 1 TooLong\nat {WHOLE}: a text has at most {MOST_BYTES} bytes, and this has more\n"
+LONG_LINES = f"error 1 TooLong\nat {WHOLE}: a text may have at most {MOST_BYTES} bytes; this one has more\n"
 UNREAD, UNWRITTEN = (b"", READ_FAULT.encode(), 1), (b"", WRITE_FAULT.encode(), 1)
 TOO_LONG = LONG_LINES.encode(), b"", 1
 ROW = of_expr('"a"')

@@ -27,7 +27,7 @@ BROKEN = re.compile(r"(EOF while parsing|[a-z A-Z]+) at line (\d+) column (\d+) 
 def found(value):
     """A value, or how long it is."""
     if isinstance(value, list) and value:
-        return f"a list of {len(value)}"
+        return f"a list of length {len(value)}"
     if isinstance(value, dict) and value:
         return f"an object of {len(value)} members"
     if isinstance(value, str) and len(value.encode()) > MOST_SHOWN:
@@ -45,11 +45,11 @@ def quoted(name):
 
 def fields(value):
     if not isinstance(value, dict):
-        return f"a request is an object of five fields, and this is {found(value)}"
+        return f"a request is an object of five fields; this is {found(value)}"
     known = ["version", "workers", "block", "inputs", "expr"]
     for name in known:
         if name not in value:
-            return f'there is no field "{name}"'
+            return f'the field "{name}" is missing'
     name = min((it for it in value if it not in known), key=str.encode)
     return f"a request has no field {quoted(name)}"
 
@@ -57,42 +57,42 @@ def fields(value):
 def illegal(version, dims):
     """Why dims aren't legal, where they aren't."""
     if len(dims) > version.most_rank:
-        past = f"are past the highest rank of version {version.number}, {version.most_rank}"
-        return f"dims of rank {len(dims)} {past}"
+        rank = f"the rank of these dims is {len(dims)}"
+        return f"{rank}; version {version.number} allows at most {version.most_rank}"
     product = math.prod(max(it, 1) for it in dims)
     if product <= version.most_places:
         return None
-    zero = ", a 0 counted as 1," if 0 in dims else ""
+    zero = " (a 0 counts as 1)" if 0 in dims else ""
     many = f"at least {MOST_WORD}" if product >= MOST_WORD else product
-    return f"the product of the dims {dims}{zero} is {many}, and at most {version.most_places}"
+    return f"the product of the dims {dims}{zero} is {many}; it may be at most {version.most_places}"
 
 
 def tensor(version, value):
     if not isinstance(value, dict):
-        return f"a tensor is an object of dims and data, and this is {found(value)}"
+        return f"a tensor is an object of dims and data; this is {found(value)}"
     for name in "dims", "data":
         if name not in value:
             return f"the tensor has no {name}"
     if len(value) != 2:
-        return f"a tensor has dims and data alone, and this one has {len(value)} members"
+        return f"a tensor has the members dims and data only; this one has {len(value)} members"
     dims, data = value["dims"], value["data"]
     if not isinstance(dims, list):
-        return f"the dims are a list of whole numbers from 0 up, and these are {found(dims)}"
+        return f"dims must be a list of whole numbers of at least 0; this is {found(dims)}"
     for it in dims:
         if type(it) is not int or it < 0:
-            return f"the dims are whole numbers from 0 up, and one of these is {found(it)}"
+            return f"dims must be whole numbers of at least 0; one of these is {found(it)}"
     return illegal(version, dims) or numbers(dims, data)
 
 
 def numbers(dims, data):
     if not isinstance(data, list):
-        return f"the data are a list of whole numbers, and these are {found(data)}"
+        return f"data must be a list of whole numbers; this is {found(data)}"
     for at, it in enumerate(data):
         if not is_value(it):
-            which = f"that at index {at} is {found(it)}"
-            return f"the data are whole numbers from {VALUES.start} to {VALUES.stop - 1}, and {which}"
+            which = f"the one at index {at} is {found(it)}"
+            return f"data must be whole numbers from {VALUES.start} to {VALUES.stop - 1}; {which}"
     shown = json.dumps(dims, separators=(",", ":"))
-    return f"there are as many data as the dims {shown} have places, and these are {len(data)}"
+    return f"data must have one number for each place of the dims {shown}; it has {len(data)}"
 
 
 # Nodes
@@ -107,12 +107,12 @@ def unknown_input(inputs, name):
 
 def unknown_operation(version, name):
     if not isinstance(name, str):
-        return f"a node begins with the name of its operation, and not with {found(name)}"
+        return f"a node begins with the name of an operation; this one begins with {found(name)}"
     first = next((it for it, known in OPERATIONS_OF.items() if name in known), None)
     if first is not None:
-        whose = "" if first in VERSIONS else ", which frames alone have"
+        whose = "" if first in VERSIONS else " (frames only)"
         this = f"this is a text of version {version.number}"
-        return f"{found(name)} is an operation of version {first}{whose}, and {this}"
+        return f"{found(name)} is an operation of version {first}{whose}; {this}"
     meant = f": {MEANT[name]}" if name in MEANT else ""
     return f"no operation of version {version.number} is named {quoted(name)}{meant}"
 
@@ -121,9 +121,9 @@ def no_node(value):
     if is_value(value):
         as_node = ["constant", "x", value]
         assert FORMS["value"](as_node[2])
-        return f'a number is no expression: ["constant",x,{value}] has it at each place of x'
-    known = "an expression is an input's name or a list that begins with an operation's"
-    return f"{known}, and not {found(value)}"
+        return f'a number is not an expression; ["constant",x,{value}] has the number at each place of x'
+    known = "the name of an input or a list that begins with an operation"
+    return f"an expression is {known}; this is {found(value)}"
 
 
 def arity(version, node):
@@ -132,8 +132,8 @@ def arity(version, node):
     assert len(names) == len(forms)
     takes = COUNTS[operands] + (f" and then {' and '.join(names)}" if names else "")
     count = len(node) - 1
-    stand = "element stands" if count == 1 else "elements stand"
-    return f'"{node[0]}" takes {takes}, and {count} {stand} behind it'
+    follow = "element follows" if count == 1 else "elements follow"
+    return f'"{node[0]}" takes {takes}; {count} {follow} it'
 
 
 def argument(version, node, at):
@@ -142,8 +142,8 @@ def argument(version, node, at):
     name, what = NAMES_OF[node[0]][at - operands - 1], f"this is {found(value)}"
     if form in ITEMS and isinstance(value, list):
         bad = next(k for k, it in enumerate(value) if not ITEMS[form](it))
-        what = f"the item at index {bad} of this one is {found(value[bad])}"
-    return f'{name} of "{node[0]}" is {FORM_WORDS[form]}, and {what}'
+        what = f"the item at index {bad} is {found(value[bad])}"
+    return f'{name} of "{node[0]}" must be {FORM_WORDS[form]}; {what}'
 
 
 # Own checks: each a function of the version, the operands' dims and the arguments.
@@ -151,23 +151,23 @@ def argument(version, node, at):
 
 def count_of(name, items, dims):
     if len(items) != len(dims):
-        has = f"{len(dims)} in all, and this has {len(items)}"
-        return f"{name} has an item for each dimension of {dims}, {has}"
+        has = f"{len(dims)} in all; it has {len(items)}"
+        return f"{name} must have one item for each dimension of {dims}, {has}"
     return None
 
 
 def zero_in(name, items):
     if 0 in items:
-        return f"each item of {name} is at least 1, and that at index {items.index(0)} is 0"
+        return f"each item of {name} must be at least 1; the one at index {items.index(0)} is 0"
     return None
 
 
 def axes_in(name, axes, dims):
     for at, axis in enumerate(axes):
         if axis >= len(dims):
-            return f"{name} is an axis of the dims {dims}, and at index {at} this has {axis}"
+            return f"{name} must be axes of the dims {dims}; the one at index {at} is {axis}"
         if axis in axes[:at]:
-            return f"{name} has no axis twice, and this has {axis} twice"
+            return f"{name} must not repeat an axis; {axis} is there twice"
     return None
 
 
@@ -176,7 +176,7 @@ def result(version, dims):
     for axis, it in enumerate(dims):
         if it > MOST_WORD:
             along = f"along axis {axis} the result has more than {MOST_WORD} places"
-            return f"{along}, and the product of its dims is at most {version.most_places}"
+            return f"{along}; the product of its dims may be at most {version.most_places}"
     return illegal(version, dims)
 
 
@@ -190,20 +190,20 @@ def slice_of(_version, dims, offsets, extents):
     wrong = count_of("OFFSETS", offsets, dims) or count_of("EXTENTS", extents, dims)
     for axis, (offset, extent, it) in enumerate(zip(offsets, extents, dims)):
         if not wrong and offset + extent > it:
-            past = f"go past the dimension {it} of axis {axis}"
-            return f"the offset {offset} and the extent {extent} {past}"
+            past = f"is more than the dimension {it} of axis {axis}"
+            return f"offset {offset} plus extent {extent} {past}"
     return wrong
 
 
 def reshape(version, dims, sizes):
-    places = f"{math.prod(sizes)} places, and the dims {dims} of the operand {math.prod(dims)}"
+    places = f"{math.prod(sizes)} places; the dims {dims} of the operand have {math.prod(dims)}"
     return illegal(version, sizes) or f"SIZES {sizes} have {places}"
 
 
 def chip(_version, dims, offset, axis):
     if axis >= len(dims):
-        return f"AXIS {axis} is no axis of the dims {dims}"
-    return f"OFFSET is below the dimension {dims[axis]} of AXIS {axis}, and this is {offset}"
+        return f"AXIS {axis} is not an axis of the dims {dims}"
+    return f"OFFSET must be below the dimension {dims[axis]} of AXIS {axis}; it is {offset}"
 
 
 def pad(version, dims, pairs):
@@ -213,12 +213,12 @@ def pad(version, dims, pairs):
 
 def concat(version, first, second, axis):
     if len(first) != len(second):
-        return f"both operands have as many dims, and these have {first} and {second}"
+        return f"both operands must have the same rank; their dims are {first} and {second}"
     if axis >= len(first):
-        return f"AXIS {axis} is no axis of the dims {first}"
+        return f"AXIS {axis} is not an axis of the dims {first}"
     for at, (it, other) in enumerate(zip(first, second)):
         if at != axis and it != other:
-            same = f"are to be the same but at axis {axis}, and differ at {at}"
+            same = f"may differ only at axis {axis}; they differ at axis {at}"
             return f"the dims {first} and {second} {same}"
     joined = [it + second[axis] * (at == axis) for at, it in enumerate(first)]
     return illegal(version, joined)
@@ -226,12 +226,12 @@ def concat(version, first, second, axis):
 
 def contract(version, left, right, pairs):
     firsts, seconds = [it[0] for it in pairs], [it[1] for it in pairs]
-    wrong = axes_in("the first of each of PAIRS", firsts, left)
-    wrong = wrong or axes_in("the second of each of PAIRS", seconds, right)
+    wrong = axes_in("the first numbers of PAIRS", firsts, left)
+    wrong = wrong or axes_in("the second numbers of PAIRS", seconds, right)
     for i, j in [] if wrong else pairs:
         if left[i] != right[j]:
-            of_second = f"axis {j} of the second {right[j]}"
-            return f"axis {i} of the first operand is {left[i]} long, and {of_second}"
+            of_second = f"axis {j} of the second is {right[j]} long"
+            return f"axis {i} of the first operand is {left[i]} long; {of_second}"
     kept = [left[it] for it in others(firsts, left)] + [right[it] for it in others(seconds, right)]
     return wrong or illegal(version, kept)
 
@@ -240,16 +240,16 @@ def convolve(_version, dims, kernel, axes):
     if wrong := axes_in("AXES", axes, dims):
         return wrong
     if len(kernel) != len(axes):
-        has = f"{len(axes)} in all, and has the dims {kernel}"
-        return f"the kernel has a dimension for each of AXES, {has}"
+        has = f"{len(axes)} in all; its dims are {kernel}"
+        return f"the kernel must have one dimension for each of AXES, {has}"
     for axis, it in zip(axes, kernel):
         if not 1 <= it <= dims[axis]:
-            has = f"the kernel has the dimension {it}, and the operand {dims[axis]}"
+            has = f"the kernel has the length {it}; the operand has the length {dims[axis]}"
             return f"along axis {axis} {has}"
     along = dict(zip(axes, kernel))
     places = math.prod(it - along.get(axis, 1) + 1 for axis, it in enumerate(dims))
     each = math.prod(kernel)
-    many = f"{places * each} products, and at most {MOST_PRODUCTS}"
+    many = f"{places * each} products; at most {MOST_PRODUCTS} are allowed"
     return f"{places} places of {each} products each are {many}"
 
 
@@ -277,7 +277,7 @@ def own_checks(version, inputs, node):
         return checks(version, *dims, *node[operands + 1 :])
     *first, last = map(str, dims)
     shown = f"{', '.join(first)} and {last}"
-    return f'the operands of "{node[0]}" have the dims {shown}, which are to be the same'
+    return f'the operands of "{node[0]}" must have the same dims; they have {shown}'
 
 
 def dims_of(version, inputs, tree):
@@ -329,7 +329,7 @@ def of_node(number, version, request, steps):
         return argument(version, at_end(request, steps[:-1]), steps[-1])
     most = version.most_nodes
     if number == 14 and nodes_before(request["expr"], steps[1:]) >= most:
-        return f"this is the {most + 1}st node, and an expression has at most {most}"
+        return f"this is the {most + 1}st node; an expression may have at most {most}"
     return own_checks(version, request["inputs"], node)
 
 
@@ -339,15 +339,15 @@ def reason(number, request, steps):
     if number == 3:
         return fields(value)
     if number == 4:
-        return f"the version is the whole number 1 or 2, and this is {found(value)}"
+        return f"version must be 1 or 2; this is {found(value)}"
     version = VERSIONS[request["version"]]
     if number == 5:
-        most = f"a whole number from 1 to {version.most_workers} of workers"
-        return f"version {version.number} has {most}, and this is {found(value)}"
+        rule = f"workers must be a whole number from 1 to {version.most_workers}"
+        return f"in version {version.number} {rule}; this is {found(value)}"
     if number == 6:
-        return f"a block has a whole number from 1 to {2**20} of places, and this is {found(value)}"
+        return f"block must be a whole number from 1 to {2**20}; this is {found(value)}"
     if number == 7:
-        whole = f"the inputs are an object of tensors, and this is {found(value)}"
+        whole = f"inputs must be an object of tensors; this is {found(value)}"
         return whole if steps == ["inputs"] else tensor(version, value)
     return of_node(number, version, request, steps)
 
@@ -371,7 +371,7 @@ def is_broken_there(text, said):
     try:
         text.decode("utf-8")
     except UnicodeDecodeError as error:
-        return said == f"byte {error.start} begins no UTF-8"
+        return said == f"the bytes from byte {error.start} on are not UTF-8"
     parts = BROKEN.fullmatch(said)
     if not parts:
         return False
@@ -389,7 +389,7 @@ def is_true(text, request, fault, said):
     """Whether what is said of a fault, a number and steps, is what this count says."""
     number, steps = fault
     if number == 1:
-        return said == f"a text has at most {MOST_BYTES} bytes, and this has more" and (
+        return said == f"a text may have at most {MOST_BYTES} bytes; this one has more" and (
             len(text) > MOST_BYTES
         )
     if number == 2:

@@ -26,12 +26,12 @@ FORM_WORDS = {
     "value": f"a whole number from {VALUES.start} to {VALUES.stop - 1}",
 }
 ITEMS = {"sizes": is_size, "pairs": is_pair, "flags": lambda it: isinstance(it, bool)}
-COUNTS = {1: "an operand", 2: "two operands", 3: "three operands"}
+COUNTS = {1: "one operand", 2: "two operands", 3: "three operands"}
 MEANT = {
     **dict.fromkeys(("const", "fill"), '"constant" has one value at each place'),
     **dict.fromkeys(("matmul", "dot"), '"contract" sums products over pairs of axes'),
-    **dict.fromkeys(("transpose", "permute"), '"shuffle" puts the axes into an order'),
-    "max": '"maximum" is over axes, and "cwise_max" of two tensors',
-    "min": '"minimum" is over axes, and "cwise_min" of two tensors',
-    "product": '"prod" is over axes, and "mul" of two tensors',
+    **dict.fromkeys(("transpose", "permute"), '"shuffle" reorders the axes'),
+    "max": '"maximum" reduces axes, and "cwise_max" takes two tensors',
+    "min": '"minimum" reduces axes, and "cwise_min" takes two tensors',
+    "product": '"prod" reduces axes, and "mul" takes two tensors',
 }

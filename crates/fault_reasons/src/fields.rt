@@ -14,11 +14,11 @@ fn is_field(name: &str) -> bool {
 pub(crate) fn why_fields(alloc: Global, value: &Value) -> Result<String, AllocError> {
     let Some(members) = value.as_object() else {
         let what = found(alloc, value)?;
-        return format!(in alloc; "a request is an object of five fields, and this is {what}");
+        return format!(in alloc; "a request is an object of five fields; this is {what}");
     };
     for field in ["version", "workers", "block", "inputs", "expr"] {
         if value.get(field).is_none() {
-            return format!(in alloc; "there is no field \"{field}\"");
+            return format!(in alloc; "the field \"{field}\" is missing");
         }
     }
     for (name, _) in members {
@@ -33,7 +33,7 @@ pub(crate) fn why_fields(alloc: Global, value: &Value) -> Result<String, AllocEr
 /// Says why a value is not a version of a text.
 pub(crate) fn why_version(alloc: Global, value: &Value) -> Result<String, AllocError> {
     let what = found(alloc, value)?;
-    format!(in alloc; "the version is the whole number 1 or 2, and this is {what}")
+    format!(in alloc; "version must be 1 or 2; this is {what}")
 }
 
 /// Says why a value is not a number of workers in this version.
@@ -45,12 +45,12 @@ pub(crate) fn why_workers(
     let most = if version == 1 { 64 } else { 256 };
     let what = found(alloc, value)?;
     format!(in alloc;
-        "version {version} has a whole number from 1 to {most} of workers, and this is {what}"
+        "in version {version} workers must be a whole number from 1 to {most}; this is {what}"
     )
 }
 
 /// Says why a value is not a block.
 pub(crate) fn why_block(alloc: Global, value: &Value) -> Result<String, AllocError> {
     let what = found(alloc, value)?;
-    format!(in alloc; "a block has a whole number from 1 to 1048576 of places, and this is {what}")
+    format!(in alloc; "block must be a whole number from 1 to 1048576; this is {what}")
 }

@@ -10,7 +10,9 @@ const MOST_SHOWN: usize = 60;
 /// Describes a value: as JSON if it is short, otherwise by its kind and its length.
 pub(crate) fn found(alloc: Global, value: &Value) -> Result<String, AllocError> {
     match value {
-        Value::Array(list) if !list.is_empty() => { format!(in alloc; "a list of {}", list.len()) }
+        Value::Array(list) if !list.is_empty() => {
+            format!(in alloc; "a list of length {}", list.len())
+        }
         Value::Object(members) if !members.is_empty() => {
             format!(in alloc; "an object of {} members", members.len())
         }

@@ -16,7 +16,7 @@ fn why_count(
         return Ok(None);
     }
     let reason = format!(in alloc;
-        "{name} has an item for each dimension of {dims:?}, {} in all, and this has {count}",
+        "{name} must have one item for each dimension of {dims:?}, {} in all; it has {count}",
         dims.len()
     )?;
     Ok(Some(reason))
@@ -40,7 +40,7 @@ fn why_zero(alloc: Global, name: &str, sizes: &[u64]) -> Result<Option<String>, 
     match sizes.iter().position(|size| *size == 0) {
         Some(index) => {
             let reason = format!(in alloc;
-                "each item of {name} is at least 1, and that at index {index} is 0"
+                "each item of {name} must be at least 1; the one at index {index} is 0"
             )?;
             Ok(Some(reason))
         }
@@ -82,7 +82,7 @@ pub(crate) fn why_reshape(
         return Ok(Some(reason));
     }
     let reason = format!(in alloc;
-        "SIZES {sizes:?} have {} places, and the dims {dims:?} of the operand {}",
+        "SIZES {sizes:?} have {} places; the dims {dims:?} of the operand have {}",
         places(sizes),
         places(dims)
     )?;
@@ -129,7 +129,7 @@ pub(crate) fn why_chip(
         return no_axis(alloc, axis, dims);
     };
     let reason = format!(in alloc;
-        "OFFSET is below the dimension {size} of AXIS {axis}, and this is {offset}"
+        "OFFSET must be below the dimension {size} of AXIS {axis}; it is {offset}"
     )?;
     Ok(Some(reason))
 }
@@ -171,7 +171,7 @@ fn why_outside(
     {
         if offset.saturating_add(*extent) > *size {
             let reason = format!(in alloc;
-                "the offset {offset} and the extent {extent} go past the dimension {size} of axis {axis}"
+                "offset {offset} plus extent {extent} is more than the dimension {size} of axis {axis}"
             )?;
             return Ok(Some(reason));
         }

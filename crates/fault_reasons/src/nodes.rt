@@ -51,19 +51,15 @@ pub(crate) fn why_operation(
     let Some(name) = value.as_str() else {
         let what = found(alloc, value)?;
         return format!(in alloc;
-            "a node begins with the name of its operation, and not with {what}"
+            "a node begins with the name of an operation; this one begins with {what}"
         );
     };
     let shown = quoted(alloc, name)?;
     if let Some(operation) = known_operation(name) {
         let first = operation.version;
-        let whose = if first == 3 {
-            ", which frames alone have,"
-        } else {
-            ","
-        };
+        let whose = if first == 3 { " (frames only)" } else { "" };
         return format!(in alloc;
-            "{shown} is an operation of version {first}{whose} and this is a text of version {version}"
+            "{shown} is an operation of version {first}{whose}; this is a text of version {version}"
         );
     }
     match near(name) {
@@ -77,12 +73,12 @@ pub(crate) fn why_operation(
 /// Suggests an operation for a name that other libraries use.
 fn near(name: &str) -> Option<&'static str> {
     match name {
-        "max" => Some("\"maximum\" is over axes, and \"cwise_max\" of two tensors"),
-        "min" => Some("\"minimum\" is over axes, and \"cwise_min\" of two tensors"),
+        "max" => Some("\"maximum\" reduces axes, and \"cwise_max\" takes two tensors"),
+        "min" => Some("\"minimum\" reduces axes, and \"cwise_min\" takes two tensors"),
         "const" | "fill" => Some("\"constant\" has one value at each place"),
         "matmul" | "dot" => Some("\"contract\" sums products over pairs of axes"),
-        "transpose" | "permute" => Some("\"shuffle\" puts the axes into an order"),
-        "product" => Some("\"prod\" is over axes, and \"mul\" of two tensors"),
+        "transpose" | "permute" => Some("\"shuffle\" reorders the axes"),
+        "product" => Some("\"prod\" reduces axes, and \"mul\" takes two tensors"),
         _ => None,
     }
 }
@@ -92,11 +88,11 @@ pub(crate) fn why_node(alloc: Global, value: &Value) -> Result<String, AllocErro
     let what = found(alloc, value)?;
     if value.as_i64().is_some() {
         return format!(in alloc;
-            "a number is no expression: [\"constant\",x,{what}] has it at each place of x"
+            "a number is not an expression; [\"constant\",x,{what}] has the number at each place of x"
         );
     }
     format!(in alloc;
-        "an expression is an input's name or a list that begins with an operation's, and not {what}"
+        "an expression is the name of an input or a list that begins with an operation; this is {what}"
     )
 }
 
@@ -107,11 +103,11 @@ pub(crate) fn why_arity(alloc: Global, value: &Value) -> Result<String, AllocErr
     };
     let takes = takes(alloc, &operation)?;
     let elements = if count == 1 {
-        "element stands"
+        "element follows"
     } else {
-        "elements stand"
+        "elements follow"
     };
-    format!(in alloc; "\"{name}\" takes {takes}, and {count} {elements} behind it")
+    format!(in alloc; "\"{name}\" takes {takes}; {count} {elements} it")
 }
 
 /// Returns the name of a node's operation, what it takes, and how many elements follow the name.
@@ -124,7 +120,7 @@ fn node(value: &Value) -> Option<(&str, Operation, usize)> {
 /// Says which operands and arguments an operation takes.
 fn takes(alloc: Global, operation: &Operation) -> Result<String, AllocError> {
     let operands = match operation.operands {
-        1 => "an operand",
+        1 => "one operand",
         2 => "two operands",
         _ => "three operands",
     };
@@ -152,7 +148,7 @@ pub(crate) fn why_argument(
     };
     let form = argument.form.words();
     let what = wrong(alloc, argument.form, value)?;
-    format!(in alloc; "{} of \"{name}\" is {form}, and {what}", argument.name)
+    format!(in alloc; "{} of \"{name}\" must be {form}; {what}", argument.name)
 }
 
 /// Says what is wrong with a value that should have this form: an item of it, or the whole value.
@@ -161,7 +157,7 @@ fn wrong(alloc: Global, form: Form, value: &Value) -> Result<String, AllocError>
         for (index, item) in list.iter().enumerate() {
             if !is_item(form, item) {
                 let what = found(alloc, item)?;
-                return format!(in alloc; "the item at index {index} of this one is {what}");
+                return format!(in alloc; "the item at index {index} is {what}");
             }
         }
     }

@@ -21,7 +21,7 @@ pub(crate) fn why_concat(
     };
     if first.len() != second.len() {
         let reason = format!(in alloc;
-            "both operands have as many dims, and these have {first:?} and {second:?}"
+            "both operands must have the same rank; their dims are {first:?} and {second:?}"
         )?;
         return Ok(Some(reason));
     }
@@ -31,7 +31,7 @@ pub(crate) fn why_concat(
     let axis = axis as usize;
     if let Some(other) = differs_at(axis, first, second) {
         let reason = format!(in alloc;
-            "the dims {first:?} and {second:?} are to be the same but at axis {axis}, and differ at {other}"
+            "the dims {first:?} and {second:?} may differ only at axis {axis}; they differ at axis {other}"
         )?;
         return Ok(Some(reason));
     }
@@ -76,11 +76,11 @@ pub(crate) fn why_contract(
         return Ok(None);
     };
     let (firsts, seconds) = (pairs.0.as_slice(), pairs.1.as_slice());
-    let reason = why_axes(alloc, "the first of each of PAIRS", firsts, first)?;
+    let reason = why_axes(alloc, "the first numbers of PAIRS", firsts, first)?;
     if reason.is_some() {
         return Ok(reason);
     }
-    let reason = why_axes(alloc, "the second of each of PAIRS", seconds, second)?;
+    let reason = why_axes(alloc, "the second numbers of PAIRS", seconds, second)?;
     if reason.is_some() {
         return Ok(reason);
     }
@@ -89,7 +89,7 @@ pub(crate) fn why_contract(
         if size != other {
             let (size, other) = (size.copied().unwrap_or(0), other.copied().unwrap_or(0));
             let reason = format!(in alloc;
-                "axis {left} of the first operand is {size} long, and axis {right} of the second {other}"
+                "axis {left} of the first operand is {size} long; axis {right} of the second is {other} long"
             )?;
             return Ok(Some(reason));
         }
@@ -147,7 +147,7 @@ pub(crate) fn why_convolve(
     }
     if kernel.len() != axes.len() {
         let reason = format!(in alloc;
-            "the kernel has a dimension for each of AXES, {} in all, and has the dims {kernel:?}",
+            "the kernel must have one dimension for each of AXES, {} in all; its dims are {kernel:?}",
             axes.len()
         )?;
         return Ok(Some(reason));
@@ -157,7 +157,7 @@ pub(crate) fn why_convolve(
         let along = dims.get(*axis as usize).copied().unwrap_or(0);
         if *size == 0 || *size > along {
             let reason = format!(in alloc;
-                "along axis {axis} the kernel has the dimension {size}, and the operand {along}"
+                "along axis {axis} the kernel has the length {size}; the operand has the length {along}"
             )?;
             return Ok(Some(reason));
         }
@@ -172,7 +172,7 @@ pub(crate) fn why_convolve(
 fn why_many(alloc: Global, slid: &[u64], kernel: &[u64]) -> Result<Option<String>, AllocError> {
     let (result, each) = (places(slid), places(kernel));
     let reason = format!(in alloc;
-        "{result} places of {each} products each are {} products, and at most {MOST_PRODUCTS}",
+        "{result} places of {each} products each are {} products; at most {MOST_PRODUCTS} are allowed",
         result.saturating_mul(each)
     )?;
     Ok(Some(reason))

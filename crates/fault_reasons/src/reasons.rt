@@ -82,5 +82,5 @@ fn why_checks(
 
 /// Says that a node is one more than an expression may have.
 fn why_too_many(alloc: Global) -> Result<String, AllocError> {
-    format!(in alloc; "this is the 1001st node, and an expression has at most {MAX_NODES}")
+    format!(in alloc; "this is the 1001st node; an expression may have at most {MAX_NODES}")
 }

@@ -37,7 +37,7 @@ pub(crate) fn why_shapes(
         [first] => why_one(alloc, call, first.as_slice())?,
         [first, second] => why_two(alloc, call, first.as_slice(), second.as_slice())?,
         [first, second, third] => Some(format!(in alloc;
-            "the operands of \"{}\" have the dims {:?}, {:?} and {:?}, which are to be the same",
+            "the operands of \"{}\" must have the same dims; they have {:?}, {:?} and {:?}",
             call.name,
             first.as_slice(),
             second.as_slice(),
@@ -107,7 +107,7 @@ fn why_two(
 ) -> Result<Option<String>, AllocError> {
     let Some(argument) = call.arguments.first() else {
         let reason = format!(in alloc;
-            "the operands of \"{}\" have the dims {first:?} and {second:?}, which are to be the same",
+            "the operands of \"{}\" must have the same dims; they have {first:?} and {second:?}",
             call.name
         )?;
         return Ok(Some(reason));

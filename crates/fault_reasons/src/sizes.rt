@@ -1,12 +1,9 @@
 //! Checks of sizes that several operations share, with their reasons: legal dims, and lists of
-//! axes. The limits of texts are written here again: a new limit of `expr_reader` changes
-//! them too.
+//! axes. The highest ranks are written here again: a new one of `expr_reader` changes them too.
 
 use serde_json::Value;
 use std::alloc::{AllocError, Global};
-
-/// The largest product of the dims of a tensor in a request text.
-const MOST_PLACES: u64 = 1_048_576;
+use tensor_ops::TEXT_ELEMENTS;
 
 /// Returns the highest rank that a version allows.
 fn highest_rank(version: u64) -> usize {
@@ -40,21 +37,21 @@ pub(crate) fn why_illegal(
     let most = highest_rank(version);
     if sizes.len() > most {
         let reason = format!(in alloc;
-            "dims of rank {} are past the highest rank of version {version}, {most}",
+            "the rank of these dims is {}; version {version} allows at most {most}",
             sizes.len()
         )?;
         return Ok(Some(reason));
     }
     let product = product(sizes);
-    if product > MOST_PLACES {
+    if product > TEXT_ELEMENTS {
         let zero = if sizes.contains(&0) {
-            ", a 0 counted as 1,"
+            " (a 0 counts as 1)"
         } else {
             ""
         };
         let most = if product == u64::MAX { "at least " } else { "" };
         let reason = format!(in alloc;
-            "the product of the dims {sizes:?}{zero} is {most}{product}, and at most {MOST_PLACES}"
+            "the product of the dims {sizes:?}{zero} is {most}{product}; it may be at most {TEXT_ELEMENTS}"
         )?;
         return Ok(Some(reason));
     }
@@ -78,9 +75,9 @@ pub(crate) fn sizes_in(alloc: Global, value: &Value) -> Result<Option<Vec<u64>>,
 
 /// Says that a result has more places along an axis than fit in 64 bits.
 pub(crate) fn past_words(alloc: Global, axis: usize) -> Result<Option<String>, AllocError> {
-    let rule = format!(in alloc; "the product of its dims is at most {MOST_PLACES}")?;
+    let rule = format!(in alloc; "the product of its dims may be at most {TEXT_ELEMENTS}")?;
     let reason = format!(in alloc;
-        "along axis {axis} the result has more than {} places, and {rule}",
+        "along axis {axis} the result has more than {} places; {rule}",
         u64::MAX
     )?;
     Ok(Some(reason))
@@ -92,7 +89,7 @@ pub(crate) fn no_axis(
     axis: u64,
     dims: &[u64],
 ) -> Result<Option<String>, AllocError> {
-    let reason = format!(in alloc; "AXIS {axis} is no axis of the dims {dims:?}")?;
+    let reason = format!(in alloc; "AXIS {axis} is not an axis of the dims {dims:?}")?;
     Ok(Some(reason))
 }
 
@@ -106,12 +103,14 @@ pub(crate) fn why_axes(
     for (index, axis) in axes.iter().enumerate() {
         if *axis >= dims.len() as u64 {
             let reason = format!(in alloc;
-                "{name} is an axis of the dims {dims:?}, and at index {index} this has {axis}"
+                "{name} must be axes of the dims {dims:?}; the one at index {index} is {axis}"
             )?;
             return Ok(Some(reason));
         }
         if axes[..index].contains(axis) {
-            let reason = format!(in alloc; "{name} has no axis twice, and this has {axis} twice")?;
+            let reason = format!(in alloc;
+                "{name} must not repeat an axis; {axis} is there twice"
+            )?;
             return Ok(Some(reason));
         }
     }

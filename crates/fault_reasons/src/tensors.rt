@@ -9,14 +9,14 @@ use std::alloc::{AllocError, Global};
 /// Says why the value of the field `inputs` is not an object.
 pub(crate) fn why_inputs(alloc: Global, value: &Value) -> Result<String, AllocError> {
     let what = found(alloc, value)?;
-    format!(in alloc; "the inputs are an object of tensors, and this is {what}")
+    format!(in alloc; "inputs must be an object of tensors; this is {what}")
 }
 
 /// Says why a value is not a tensor in this version.
 pub(crate) fn why_tensor(alloc: Global, version: u64, value: &Value) -> Result<String, AllocError> {
     let Some(members) = value.as_object() else {
         let what = found(alloc, value)?;
-        return format!(in alloc; "a tensor is an object of dims and data, and this is {what}");
+        return format!(in alloc; "a tensor is an object of dims and data; this is {what}");
     };
     let Some(dims) = value.get("dims") else {
         return format!(in alloc; "the tensor has no dims");
@@ -26,7 +26,7 @@ pub(crate) fn why_tensor(alloc: Global, version: u64, value: &Value) -> Result<S
     };
     if members.len() != 2 {
         return format!(in alloc;
-            "a tensor has dims and data alone, and this one has {} members",
+            "a tensor has the members dims and data only; this one has {} members",
             members.len()
         );
     }
@@ -41,7 +41,7 @@ fn why_dims(alloc: Global, version: u64, value: &Value) -> Result<Option<String>
     let Some(list) = value.as_array() else {
         let what = found(alloc, value)?;
         let reason = format!(in alloc;
-            "the dims are a list of whole numbers from 0 up, and these are {what}"
+            "dims must be a list of whole numbers of at least 0; this is {what}"
         )?;
         return Ok(Some(reason));
     };
@@ -50,7 +50,7 @@ fn why_dims(alloc: Global, version: u64, value: &Value) -> Result<Option<String>
         let Some(number) = size.as_u64() else {
             let what = found(alloc, size)?;
             let reason = format!(in alloc;
-                "the dims are whole numbers from 0 up, and one of these is {what}"
+                "dims must be whole numbers of at least 0; one of these is {what}"
             )?;
             return Ok(Some(reason));
         };
@@ -63,13 +63,13 @@ fn why_dims(alloc: Global, version: u64, value: &Value) -> Result<Option<String>
 fn why_data(alloc: Global, dims: &Value, value: &Value) -> Result<String, AllocError> {
     let Some(list) = value.as_array() else {
         let what = found(alloc, value)?;
-        return format!(in alloc; "the data are a list of whole numbers, and these are {what}");
+        return format!(in alloc; "data must be a list of whole numbers; this is {what}");
     };
     for (index, number) in list.iter().enumerate() {
         if number.as_i64().is_none() {
             let what = found(alloc, number)?;
             return format!(in alloc;
-                "the data are whole numbers from {} to {}, and that at index {index} is {what}",
+                "data must be whole numbers from {} to {}; the one at index {index} is {what}",
                 i64::MIN,
                 i64::MAX
             );
@@ -77,7 +77,7 @@ fn why_data(alloc: Global, dims: &Value, value: &Value) -> Result<String, AllocE
     }
     let dims = dims.to_string(alloc)?;
     format!(in alloc;
-        "there are as many data as the dims {dims} have places, and these are {}",
+        "data must have one number for each place of the dims {dims}; it has {}",
         list.len()
     )
 }

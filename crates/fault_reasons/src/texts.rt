@@ -9,7 +9,7 @@ use std::alloc::{AllocError, Global};
 pub(crate) fn why_text(alloc: Global, fault: Fault, text: &[u8]) -> Result<String, AllocError> {
     match fault {
         Fault::TooLong => format!(in alloc;
-            "a text has at most {} bytes, and this has more",
+            "a text may have at most {} bytes; this one has more",
             expr_reader::MAX_TEXT
         ),
         Fault::NotJson => why_json(alloc, text),
@@ -21,7 +21,7 @@ pub(crate) fn why_text(alloc: Global, fault: Fault, text: &[u8]) -> Result<Strin
 fn why_json(alloc: Global, text: &[u8]) -> Result<String, AllocError> {
     match str::from_utf8(text) {
         Ok(text) => match Value::from_str(alloc, text) {
-            Ok(_) => format!(in alloc; "it is no JSON"),
+            Ok(_) => format!(in alloc; "it is not JSON"),
             Err(error) if error.is_memory() => Err(AllocError),
             Err(error) if error.is_eof() => why_end(alloc, text.as_bytes()),
             Err(error) => {
@@ -29,7 +29,10 @@ fn why_json(alloc: Global, text: &[u8]) -> Result<String, AllocError> {
                 format!(in alloc; "{error} (byte {byte})")
             }
         },
-        Err(error) => format!(in alloc; "byte {} begins no UTF-8", error.valid_up_to()),
+        Err(error) => format!(in alloc;
+            "the bytes from byte {} on are not UTF-8",
+            error.valid_up_to()
+        ),
     }
 }
 
