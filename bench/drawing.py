@@ -1,4 +1,4 @@
-"""What the pictures of bench/plot have in common: bars, whiskers, figures and captions."""
+"""What the pictures of bench/plot share: bars, whiskers, figures and captions."""
 
 import math
 import textwrap
@@ -9,23 +9,23 @@ matplotlib.use("svg")
 from matplotlib import pyplot  # noqa: E402
 from matplotlib.ticker import FuncFormatter  # noqa: E402
 
-# Inches; a page shows a picture some 900 pixels wide, where a text of size 8 is 10 pixels high.
+# In inches. A page shows a picture some 900 pixels wide, so a text of size 8 is 10 pixels high.
 WIDTH, LINE, CAPTION_WIDTH = 10, 0.15, 160
 SMALL, MIDDLE = 8, 9
 DARK, PALE = "#222222", "#555555"
-# Text stays text, and the same figures give the same file.
+# Text stays text, and equal figures give equal files.
 matplotlib.rcParams.update({"svg.fonttype": "none", "svg.hashsalt": "figures"})
 matplotlib.rcParams.update({"font.size": SMALL, "axes.titlesize": MIDDLE, "axes.labelsize": MIDDLE})
 
 
 def pair(it, who):
-    """The shortest and the middle time of a program, in milliseconds."""
+    """Returns the shortest and the median time of a program, in milliseconds."""
     of = it["milliseconds"][who]
     return of["shortest"], of["median"]
 
 
 def three_digits(number):
-    """A number, rounded to the first three digits that count."""
+    """Returns a number rounded to three significant digits."""
     digits = 2 - math.floor(math.log10(number)) if number > 0 else 0
     return f"{round(number, digits):,.{max(0, digits)}f}"
 
@@ -43,27 +43,27 @@ def panels(rows, columns, height, **how):
 
 
 def whisker(axes, ends, row):
-    """A line from a bar's end to where the middle of the rounds would end it."""
+    """Draws a line from a bar's end to the end that the median would give."""
     axes.plot(ends, (row, row), color=DARK, linewidth=1)
     axes.plot(ends[1:], [row], "|", color=DARK, markersize=5)
 
 
 def figure(axes, text, end, row, side=1):
-    """The figure of a bar, right of its end, or left of it where side is -1."""
+    """Writes the figure of a bar, right of its end, or left of it if `side` is -1."""
     where = "left" if side > 0 else "right"
     how = {"textcoords": "offset points", "va": "center", "ha": where}
     axes.annotate(text, (end, row), (4 * side, 0), **how)
 
 
 def bar(axes, row, height, ends, text, **how):
-    """A bar from 0 with its whisker, and the figure behind both."""
+    """Draws a bar from 0 with its whisker, and the figure after both."""
     axes.barh(row, ends[0], height, **how)
     whisker(axes, ends, row)
     figure(axes, text, max(ends), row)
 
 
 def line(axes, points, marker, **how):
-    """A line through the shortest times, or their ratios, with whiskers to the medians'."""
+    """Draws a line through the shortest times, or their ratios, with whiskers to the medians."""
     at, pairs = zip(*points)
     beyond = [later - first for first, later in pairs]
     whiskers = [[max(0, -it) for it in beyond], [max(0, it) for it in beyond]]
@@ -72,7 +72,7 @@ def line(axes, points, marker, **how):
 
 
 def leave_out(places, count):
-    """Shows nothing where there are more places than pictures."""
+    """Hides the places after the last picture."""
     for axes in list(places.flat)[count:]:
         axes.set_axis_off()
 
@@ -83,7 +83,7 @@ def plain_numbers(axis):
 
 
 def when(figures):
-    """Of what and when figures are, and what the machine did before."""
+    """Returns what figures are of, when they were measured, and the load before."""
     machine = figures["machine"]
     return (
         f"{figures['command']}, {figures['date']}, revision {machine['revision']}; load of the "
@@ -92,7 +92,7 @@ def when(figures):
 
 
 def machine_of(figures):
-    """When figures were measured, on what machine, and by what programs."""
+    """Returns when figures were measured, on what machine, and with what programs."""
     machine = figures["machine"]
     programs = [
         f"our programs built for {machine['built for']}" if machine["built for"] else "",
@@ -108,7 +108,8 @@ def machine_of(figures):
 
 
 def save(picture, path, *caption, above=0):
-    """Writes a picture, with so many inches free above and the paragraphs of its caption below."""
+    """Writes a picture, with `above` inches free at the top and the paragraphs of its caption at the
+    bottom."""
     lines = [line for it in caption for line in textwrap.wrap(it, CAPTION_WIDTH)]
     height = picture.get_figheight()
     picture.tight_layout(rect=(0, (len(lines) + 1) * LINE / height, 1, 1 - above / height))

@@ -1,8 +1,8 @@
-"""What bench/plot draws of bench/sizes/run: the time a value takes, by how many values there are."""
+"""What bench/plot draws of bench/sizes/run: the time for a value, by the number of values."""
 
 import drawing
 
-# Who is drawn, with a colour and a marker.
+# What is drawn, with its colour and its marker.
 LINES = {
     "library, 1": ("#a6d5f0", "o"),
     "library, 2": ("#56b4e9", "s"),
@@ -26,12 +26,12 @@ TITLES = {
     "take-rows": "rows taken",
     "take-values": "values taken",
 }
-# So many panels stand side by side at most.
+# The most panels side by side.
 COLUMNS = 6
 
 
 def panel(axes, name, cases):
-    """The sizes of one case: a line for each who answers."""
+    """Draws the sizes of one case, with a line for each program or library."""
     sizes = [2 ** it["power"] for it in cases]
     for who, (colour, marker) in LINES.items():
         times = [it["nanoseconds a value"].get(who) for it in cases]
@@ -46,7 +46,7 @@ def panel(axes, name, cases):
 
 
 def draw(figures, path):
-    """A panel a case."""
+    """Draws a panel for each case."""
     found = {}
     for it in figures["cases"]:
         found.setdefault(it["what"], []).append(it)

@@ -1,5 +1,5 @@
-"""What benches write down, from which bench/plot draws: the machine, the date, the command and the
-figures, as JSON."""
+"""What benches write as JSON, from which bench/plot draws: the machine, the date, the command and the
+figures."""
 
 import datetime
 import json
@@ -14,7 +14,7 @@ HEADERS = os.environ.get("EIGEN_HEADERS", "/usr/include/eigen3")
 
 
 def place(bench):
-    """Where the figures of a bench go unless it is told otherwise."""
+    """Returns the file for the figures of a bench, if none is named."""
     return os.path.join(TOP, "out", "bench", bench, "figures.json")
 
 
@@ -27,7 +27,7 @@ def first_line(*words):
 
 
 def found(path, pattern):
-    """What a pattern finds in a file, if there is one and it is there."""
+    """Returns what a pattern finds in a file, or an empty text."""
     try:
         with open(path, encoding="utf-8") as file:
             match = re.search(pattern, file.read())
@@ -53,8 +53,8 @@ def machine():
 
 
 def begun(rounds, more):
-    """The head of a bench's figures, with more of the machine that only this bench knows. It is
-    made before anything is built or timed, since the load in it is that of the minute before."""
+    """Returns the head of a bench's figures, with what only this bench knows of the machine. It is made
+    before anything is built or timed, since it has the load of the minute before."""
     command = os.path.relpath(os.path.abspath(sys.argv[0]), TOP)
     return {
         "command": " ".join([command, *sys.argv[1:]]),

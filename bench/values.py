@@ -1,5 +1,5 @@
-"""The numbers that benches work on: those of bench/arrays/rounds.h, a linear congruential
-generator's of the whole range."""
+"""The numbers that benches compute with. A linear congruential generator of the whole range makes them,
+as in bench/arrays/rounds.h."""
 
 import numpy
 
@@ -7,7 +7,7 @@ SEED, MULTIPLIER, INCREMENT, ALL = 1, 6_364_136_223_846_793_005, 1_442_695_040_8
 
 
 def numbers(count):
-    """So many numbers, as an array of int64: those that are there tell as many behind them at once.
+    """Returns `count` numbers, as an int64 array. The numbers so far give as many further ones at once.
 
     >>> numbers(2).tolist() == [7806831264735756412, 9396908728118811419 - ALL]
     True
@@ -26,5 +26,5 @@ def numbers(count):
 
 
 def total(array):
-    """The sum of an array's values, wrapped, as bench/arrays/rounds.h prints it."""
+    """Returns the sum of an array's values, wrapped, as bench/arrays/rounds.h prints it."""
     return int(numpy.asarray(array).view(numpy.uint64).sum(dtype=numpy.uint64))

@@ -1,4 +1,4 @@
-"""What bench/plot draws of bench/workers: the time of a request by its places and its workers."""
+"""What bench/plot draws of bench/workers: the time of a request, by its places and its workers."""
 
 import textwrap
 
@@ -9,13 +9,14 @@ LINES = (("#a6d5f0", "o"), ("#56b4e9", "s"), ("#0072b2", "^"))
 
 
 def is_worth(times):
-    """Whether several workers have an answer sooner than one by a tenth."""
+    """Whether several workers are sooner than one by a tenth at least."""
     one, *others = times.values()
     return min(others) <= 0.9 * one
 
 
 def panel(axes, form, requests):
-    """The requests of one form: a line a number of workers, and from where on several are worth it."""
+    """Draws the requests of one form: a line for each number of workers, and from where several are
+    worth it."""
     sizes, times = zip(*((it["size"], it["microseconds"]["here"]) for it in requests))
     for workers, (colour, marker) in zip(times[0], LINES):
         how = {"marker": marker, "markersize": 4, "linewidth": 1, "color": colour}
@@ -34,7 +35,7 @@ def panel(axes, form, requests):
 
 
 def draw(figures, path):
-    """A panel a form of request."""
+    """Draws a panel for each form of request."""
     forms = {}
     for it in figures["requests"]:
         forms.setdefault(it["form"], []).append(it)

@@ -1,4 +1,4 @@
-"""The repository's crates: what they are made of, and copies of them to work in."""
+"""The crates of the repository: what they are made of, and the prover's commands for them."""
 
 import functools
 import hashlib
@@ -12,13 +12,13 @@ from usage import fail
 
 TOP = os.path.dirname(os.path.dirname(os.path.abspath(__file__)))
 CRATES = os.path.join(TOP, "crates")
-# What a check holds: the toolchain's own proofs, and what it makes of each line of the crate.
+# The memory of a check: for the toolchain's own proofs, and for each line of the crate.
 BYTES = 1_000_000_000
 BYTES_OF_A_LINE = 200_000
 
 
 class Crate:
-    """A crate: its name and its line of crates.txt, and the libraries right below it."""
+    """A crate: its name, its line of crates.txt, and the libraries directly below it."""
 
     def __init__(self, name, line, below, of_kit):
         self.name, self.line, self.below, self.of_kit = name, line, below, of_kit
@@ -28,7 +28,7 @@ class Crate:
         texts = [it.read() for it in map(opened, self.sources)]
         self.lines = sum(it.count(b"\n") for it in texts)
         self.memory = BYTES + BYTES_OF_A_LINE * self.lines
-        # Sums of what a proof of the crate reads, but for the kit: in all, and in the crate itself.
+        # Checksums of what a proof of the crate reads, except the kit: of all, and of the crate itself.
         self.stamp = self.stamp_of(texts, [it.stamp for it in self.below])
         self.own_stamp = self.stamp_of(texts)
 
@@ -37,12 +37,13 @@ class Crate:
         return hashlib.sha256(repr((self.line, below, names, texts)).encode()).hexdigest()
 
     def is_unchanged(self):
-        """Whether the crate's own files are as they were when this was made of them."""
+        """Whether the crate's own files are as they were when this object was made."""
         now = Crate(self.name, self.line, self.below, self.of_kit)
         return now.own_stamp == self.own_stamp
 
     def all_below(self):
-        """The crates of the repository that this one stands on, each behind its own."""
+        """Returns the crates of the repository on which this one stands, each after the crates below
+        it."""
         found = {}
         for it in self.below:
             found |= it.all_below()
@@ -50,8 +51,9 @@ class Crate:
         return found
 
     def command(self, work, rlib_of, rooms):
-        """The prover's command for this work on the crate, but for flags and the file behind it: over
-        libraries that stand where `rlib_of` says, and those that these take in these rooms."""
+        """Returns the prover's command for this work on the crate, without flags and the file that
+        follow. The libraries are where `rlib_of` says, and the libraries that these use are in these
+        rooms."""
         folder = kit()
         words = [f"{folder}/bin/rattle", work, "--crate-name", self.name]
         for name in ["std", *self.of_kit]:
@@ -79,14 +81,14 @@ def files_in(folder, part):
 
 
 def listed():
-    """The lines of crates.txt by the crate's name, each with the names that stand below it."""
+    """Returns the lines of crates.txt by the crate's name, each with the names of the crates below."""
     with open(os.path.join(TOP, "crates.txt"), encoding="utf-8") as file:
         lines = re.findall(r"(?m)^((\w+)[^:#\n]*:(.*))", file.read())
     return {name: (line, words.split()) for line, name, words in lines}
 
 
 def crates():
-    """All crates by name, each behind those that it stands on."""
+    """Returns all crates by name, each after the crates on which it stands."""
     lines, found = listed(), {}
 
     def add(name):
@@ -102,14 +104,14 @@ def crates():
 
 
 def programs():
-    """The crates of the programs, as build/programs has them."""
+    """Returns the crates of the programs, as build/programs lists them."""
     with open(os.path.join(TOP, "build", "programs"), encoding="utf-8") as file:
         return [it.split()[1] for it in file if it.strip() and not it.startswith("#")]
 
 
 @functools.lru_cache(None)
 def kit():
-    """The folder of the kit, whose first page `rt doc` names; without it the script ends."""
+    """Returns the folder of the kit, whose first page `rt doc` names. Without the kit the script ends."""
     if not shutil.which("rt"):
         fail(f"{sys.argv[0]}: the command rt of the kit isn't on PATH")
     said = subprocess.run(["rt", "doc"], capture_output=True, text=True, check=True).stdout
@@ -117,8 +119,8 @@ def kit():
 
 
 def by_gate(crate):
-    """The library that `rt ci` left of a crate, if no file that is read for it was written since, and
-    none came or went."""
+    """Returns the library that `rt ci` has left of a crate, if no file that it was made of has been
+    written since, and none was added or removed."""
     library = os.path.join(crate.folder, "out", "rlib", f"{crate.name}.rlib")
     read = {*crate.sources, *map(os.path.dirname, crate.sources)}
     is_right = os.path.isdir(library) and all(written(it) <= written(library) for it in read)
@@ -126,7 +128,7 @@ def by_gate(crate):
 
 
 def written(path):
-    """When a file or folder was changed last, in any way, which no tool sets back."""
+    """Returns when a file or folder was last changed in any way. No tool sets this time back."""
     return os.stat(path).st_ctime_ns
 
 
@@ -136,7 +138,8 @@ def free_memory():
 
 
 def beside():
-    """The environment of `rt ci`: how many checks it runs side by side, where that isn't said."""
+    """Returns the environment of `rt ci`. It says how many checks run side by side, unless that is set
+    already."""
     lanes = subprocess.run([os.path.join(TOP, "build", "lanes")], capture_output=True, text=True)
     return {"RT_JOBS": lanes.stdout.strip(), **os.environ}
 
@@ -146,7 +149,7 @@ def clock(seconds):
 
 
 def remove(path):
-    """Takes a file or a folder away, where there is one."""
+    """Removes a file or a folder, if there is one."""
     shutil.rmtree(path, ignore_errors=True)
     if os.path.lexists(path):
         os.remove(path)

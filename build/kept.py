@@ -1,9 +1,9 @@
 """Keeps what a build has proved, for other clones on this machine.
 
-Each library and each program's object file is kept outside the repository, by a checksum of everything
-that its proof has read, so that no other clone proves the crate again. The folder is
-$XDG_CACHE_HOME/tensor-build, or ~/.cache/tensor-build if that is not set. Files are links to the files
-of the first clone, if both are on one disk. A file's own checksum is compared before it is taken.
+Each library and each program's object file is kept outside the repository, under a checksum of
+everything that its proof has read. So no other clone has to prove the crate again. The folder is
+$XDG_CACHE_HOME/tensor-build, or ~/.cache/tensor-build if that isn't set. Files are links to the files of
+the first clone, if both are on one disk. Before a file is taken, its own checksum is compared.
 TENSOR_RUN_KEPT=no switches this off. The gate proves everything itself and takes nothing from here.
 """
 
@@ -18,19 +18,19 @@ from crates import remove
 HOME = os.environ.get("XDG_CACHE_HOME") or os.path.join(os.path.expanduser("~"), ".cache")
 FOLDER = os.path.join(HOME, "tensor-build")
 IS_ON = os.environ.get("TENSOR_RUN_KEPT") != "no"
-# What nobody took for so long goes, and on a disk with less room than this nothing is added.
+# What nobody takes for this long is removed. Nothing is added on a disk with less free space than this.
 MOST_SECONDS = 30 * 24 * 3600
 LEAST_ROOM = 5_000_000_000
 
 
 def place(name, proved_from):
-    """The folder that has what was made of a crate from this."""
+    """Returns the folder for what was made of a crate from this."""
     key = hashlib.sha256(proved_from.encode()).hexdigest()
     return os.path.join(FOLDER, f"{name}-{key[:32]}")
 
 
 def linked(source, target):
-    """A second name of a file, or a copy on another disk."""
+    """Makes a second name of a file, or a copy on another disk."""
     try:
         os.link(source, target)
     except OSError:
@@ -38,7 +38,7 @@ def linked(source, target):
 
 
 def copied(source, target):
-    """A copy of a file, or of a folder, whose files are links."""
+    """Copies a file, or a folder whose files become links."""
     if os.path.isdir(source):
         shutil.copytree(source, target, copy_function=linked)
     else:
@@ -46,7 +46,7 @@ def copied(source, target):
 
 
 def checksum(path):
-    """A sum of the names and the contents of a file, or of all files of a folder."""
+    """Returns a checksum of the names and contents of a file, or of all files of a folder."""
     found = hashlib.sha256()
     files = [os.path.join(at, it) for at, _, names in os.walk(path) for it in names] or [path]
     for it in sorted(files):
@@ -58,7 +58,7 @@ def checksum(path):
 
 
 def keep(name, proved_from, made):
-    """Keeps what was made of a crate. What can't be kept isn't, and that is no fault of a build."""
+    """Keeps what was made of a crate. If that fails, the build goes on."""
     to = place(name, proved_from)
     if not IS_ON or os.path.exists(to):
         return
@@ -78,7 +78,7 @@ def keep(name, proved_from, made):
 
 
 def take(name, proved_from, made):
-    """Puts what is kept of a crate where it would be made, and says whether it is there."""
+    """Puts what is kept of a crate where it would be made. Returns whether that worked."""
     kept = place(name, proved_from)
     if not IS_ON or not os.path.isdir(kept):
         return False
@@ -98,7 +98,7 @@ def take(name, proved_from, made):
 
 
 def forget():
-    """Takes away what nobody has taken for long, and what was begun and never ended."""
+    """Removes what nobody has taken for MOST_SECONDS, and what was begun and never finished."""
     if not IS_ON or not os.path.isdir(FOLDER):
         return
     for it in os.scandir(FOLDER):

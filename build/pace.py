@@ -1,34 +1,35 @@
-"""How long a build takes: the work of each crate, and the crates that all others wait for."""
+"""The time that a build takes: the work of each crate, and the crates that all others wait for."""
 
 import os
 import time
 
 from crates import TOP, programs
 
-# What crates take of a processor; of one that isn't there, a line of a library, and a program's own
-# step, which has the libraries' code in it; and what part of a check its jobs can't share.
+# The file with the processor seconds of crates. For a crate that isn't there: the seconds of a line of a
+# library, and of a program's own step, which has the libraries' code in it. And the part of a check that
+# jobs can't share.
 MEASURED = os.path.join(TOP, "build", "seconds")
 SECONDS_OF_A_LINE = 0.05
 SECONDS_OF_A_PROGRAM = 80
 UNSHARED = 0.1
 MOST_JOBS = 8
-# How much slower a machine may be than the one of build/seconds, as long as nothing is measured.
+# How much slower than the machine of build/seconds a machine may be, while nothing is measured.
 MOST_SLOWNESS = 2
-# Behind which part of the work the time that is left goes by the clock of this build.
+# From this part of the work on, the clock of this build gives the time that is left.
 TELLING = 0.2
 # A crate holds up a build if the longest way through it is nearly as long as the longest of all.
 HOLDING_UP = 0.8
 
 
 def measured():
-    """The seconds of the crates that were measured, by name."""
+    """Returns the seconds of the crates that were measured, by name."""
     with open(MEASURED, encoding="ascii") as file:
         pairs = [it.split() for it in file if it.strip() and not it.startswith("#")]
     return {name: int(seconds) for name, seconds in pairs}
 
 
 def seconds_of(crates):
-    """What each of these crates takes of a processor, by name."""
+    """Returns the processor seconds of each of these crates, by name."""
     known, of_programs = measured(), programs()
     guesses = {
         it.name: SECONDS_OF_A_PROGRAM if it.name in of_programs else SECONDS_OF_A_LINE * it.lines
@@ -38,7 +39,8 @@ def seconds_of(crates):
 
 
 def work_above(found, seconds):
-    """How long all takes that is done one after the other from each crate up to a program."""
+    """Returns, for each crate, the time of all work that follows one after the other, from it up to a
+    program."""
     above = {}
     for it in reversed(found):
         users = [above[user.name] for user in found if it in user.below]
@@ -47,7 +49,7 @@ def work_above(found, seconds):
 
 
 def work_below(found, seconds):
-    """How long all takes that is done one after the other before each crate."""
+    """Returns, for each crate, the time of all work that comes one after the other before it."""
     below = {}
     for it in found:
         ways = [below[low.name] + seconds[low.name] for low in it.below if low.name in below]
@@ -56,57 +58,57 @@ def work_below(found, seconds):
 
 
 def jobs_on(processors, is_alone=False):
-    """How many jobs a crate is proved by: half the processors, since seldom more than three crates can
-    be proved side by side, and all where it is alone; each job reads all that is below, so there
-    are never many."""
+    """Returns the number of jobs that prove a crate: half the processors, since rarely more than three
+    crates can be proved side by side, or all for a crate that is alone. It is never large, since each
+    job reads everything below."""
     return max(1, min(processors if is_alone else processors // 2, MOST_JOBS))
 
 
 def most_jobs_on(processors):
-    """How many jobs all crates have together: half as many again as there are processors, since a
-    crate's jobs wait for one another at its begin and its end."""
+    """Returns the number of jobs of all crates together: one and a half times the processors, since a
+    crate's jobs wait for each other at its beginning and its end."""
     return max(1, processors * 3 // 2)
 
 
 class Pace:
-    """The work of a build, and how fast it is done."""
+    """The work of a build, and its speed."""
 
     def __init__(self, crates, processors):
         self.processors, self.seconds = processors, seconds_of(crates)
         self.above = work_above(crates, self.seconds)
         below = work_below(crates, self.seconds)
         longest = max(self.above.values(), default=0)
-        # The crates that all others wait for in the end: they have the first call on processors.
+        # The crates that all others wait for in the end. They have priority on the processors.
         self.holding_up = {
             it for it, above in self.above.items() if below[it] + above >= HOLDING_UP * longest
         }
         self.known, self.began, self.work = {*measured()}, time.monotonic(), 0
-        # How many others want a processor, of which each has as much then as each job here.
+        # How many other jobs want a processor. Each gets as much of it as a job of this build.
         self.load = os.getloadavg()[0]
         self.used = self.expected = 0
 
     def begin(self, left):
-        """Begins to measure, with these crates before it."""
+        """Begins to measure, with these crates left."""
         self.began, self.work = time.monotonic(), self.seconds_on(left)
 
     def note(self, crate, used):
-        """Takes in how many seconds of processors a crate has taken here, if it was measured before."""
+        """Records the processor seconds that a crate took here, if the crate was measured before."""
         if crate.name in self.known:
             self.used += used
             self.expected += self.seconds[crate.name]
 
     def seconds_on(self, left):
-        """How long these crates, each behind those below it, take on idle processors, about: so long as
-        all of them together on all of these, or as the longest way up, each crate of it on half of
-        them, where that is longer."""
+        """Returns about how long these crates take on idle processors. They are ordered, each after the
+        crates below it. It is the time of all of them on all processors, or the longest way up, with
+        half the processors for each crate, if that takes longer."""
         jobs = jobs_on(self.processors)
         shared = sum(self.seconds[it.name] for it in left) / self.processors
         longest = max(work_above(left, self.seconds).values(), default=0)
         return max(shared, longest * (UNSHARED + (1 - UNSHARED) / jobs))
 
     def time_left(self, left):
-        """How long these crates take: a range while nothing is measured, then by the processors' time
-        of the crates before, and in the end by the clock."""
+        """Returns how long these crates take: a range while nothing is measured, then an estimate by the
+        processor time of the crates before, and in the end by the clock."""
         seconds = self.seconds_on(left)
         done = self.work - seconds
         if done > TELLING * self.work:

@@ -1,4 +1,4 @@
-"""The folders into which a build puts libraries and programs, and how it knows what is proved."""
+"""The folders into which a build puts libraries and programs, and how a build knows what is proved."""
 
 import hashlib
 import json
@@ -8,21 +8,21 @@ from concurrent.futures import ThreadPoolExecutor
 from crates import TOP, kit, programs, remove
 import kept
 
-# A library's own files that no crate above reads: its code, and its proofs as they were checked.
+# Files of a library that no crate above reads: its code, and its checked proofs.
 CODE = ("toolchain/mir.json", "toolchain/checked.a", "toolchain/checked.json", "lang/antt/made.json")
 MODULES = "toolchain/made.json"
-# What stands before the path of a module in that of its text.
+# The beginning of the path of a module's text. The path of the module follows.
 TEXTS = "lang/antt/"
-# The modules that the prover makes of a function's body, and the files that its proof is written in.
+# The modules that the prover makes of a function's body, and the files of the body's proof.
 OF_BODIES = ("/Code/Mir", "/Lts", "/Proof")
 PROOFS = ("Answers.antt", "Invariants.antt", "Proof.antt")
-# Begins what stands for the statements of a library that was proved whole, which fits no other below.
+# A library that was proved whole has this word and its stamp in place of a checksum of its statements.
 WHOLE = "whole"
 
 
 class Room:
-    """The folder out/build: what was proved whole, over the statements alone of the crates below. A
-    crate stays proved as long as nothing changes that its proof has read."""
+    """The folder out/build. It has what was proved whole, over only the statements of the crates below.
+    A crate stays proved until something changes that its proof has read."""
 
     name = "build"
 
@@ -34,28 +34,28 @@ class Room:
             self.kit_name = file.read()
 
     def path(self, crate, kind):
-        """A file of a crate. A program has one for each processor."""
+        """Returns a file of a crate. A program has one for each level of processors."""
         of_cpu = f"{self.cpu}." if crate.name in self.programs else ""
         return os.path.join(self.folder, f"{crate.name}.{of_cpu}{kind}")
 
     def made_of(self, crate):
-        """What the prover makes of a crate: a program's object file, or a library."""
+        """Returns what the prover makes of a crate: a program's object file, or a library."""
         return self.path(crate, "o" if crate.name in self.programs else "rlib")
 
     def library_of(self, crate):
-        """Where crates above find a library, in a folder of nothing but libraries that fit together."""
+        """Returns where crates above find a library. The folder has only libraries that fit together."""
         return os.path.join(self.folder, f"{crate.name}.rlib")
 
     def object_of(self, program):
-        """Where the object file of a program that is proved lies."""
+        """Returns the object file of a proved program."""
         return self.made_of(program)
 
     def options_for(self, crate):
-        """In which form the prover makes a crate."""
+        """Returns the options for the form in which the prover makes a crate."""
         return [] if crate.name in self.programs else ["--statements"]
 
     def words_of(self, crate, jobs):
-        """The prover's command that proves and builds a crate."""
+        """Returns the prover's command that proves and builds a crate."""
         rooms = [os.path.dirname(self.library_of(crate))]
         words = crate.command("build", self.library_of, rooms)
         words += ["--jobs", str(jobs), *self.options_for(crate)]
@@ -66,7 +66,7 @@ class Room:
         return [*words, *how, "src/main.rt", *made]
 
     def proved_from(self, crate):
-        """All that what is made of a crate depends on."""
+        """Returns everything on which the result of a crate depends."""
         of_cpu = f"{self.cpu}." if crate.name in self.programs else ""
         return f"{of_cpu}{self.kit_name}{crate.stamp}"
 
@@ -83,19 +83,22 @@ class Room:
             file.write(self.proved_from(crate))
 
     def clear(self, crate):
-        """Takes away what was made of a crate. Its files may be other clones' too: no file is reused."""
+        """Removes what was made of a crate. Other clones may have links to its files, so no file is
+        written again."""
         remove(self.path(crate, "stamp"))
         remove(self.made_of(crate))
 
     def take(self, crate):
-        """Takes what another clone on this machine has made of a crate, if it has, and says whether."""
+        """Takes what another clone on this machine has made of a crate, if there is any. Returns whether
+        there was."""
         is_taken = kept.take(crate.name, self.proved_from(crate), self.made_of(crate))
         if is_taken:
             self.note_proved(crate)
         return is_taken
 
     def find(self, crates):
-        """Those of these crates, lowest first, that are proved here, and those of another clone."""
+        """Returns which of these crates, lowest first, are proved here, and which are taken from another
+        clone."""
         here = [it for it in crates if self.is_proved(it)]
         missing = [it for it in crates if it not in here]
         with ThreadPoolExecutor(len(os.sched_getaffinity(0))) as pool:
@@ -103,7 +106,7 @@ class Room:
         return here, taken
 
     def place(self, crate):
-        """Where a crate lies that is proved here or by another clone, if it is."""
+        """Returns where a crate is that is proved here or by another clone, or None."""
         return self.made_of(crate) if self.is_proved(crate) or self.take(crate) else None
 
     def keep(self, crate):
@@ -113,14 +116,14 @@ class Room:
 
 class Quick(Room):
     """The folder out/quick, for the inner loop. The prover keeps there what it has checked of a crate,
-    and proves again only the functions that a change touches. The gate takes nothing from it, since a
-    proof there rests on what is kept.
+    and proves only the functions that a change touches. The gate takes nothing from it, since its proofs
+    rest on what is kept.
 
-    A crate is proved again where its own files changed, or the statements of a crate below. Statements
-    are all that a crate above can read, which leaves out bodies and their proofs. A program is built
-    again where anything changed. What is proved whole is taken from `places`, if all below it is.
+    A crate is proved again if its own files changed, or the statements of a crate below. Statements are
+    all that a crate above can read: neither bodies nor their proofs. A program is built again if
+    anything changed. A crate that was proved whole is taken from `places`, if everything below it is.
 
-    A library lies in out/quick or in one of those places. A folder of links has the libraries that fit
+    A library is in out/quick or in one of these places. A folder of links has the libraries that fit
     together.
     """
 
@@ -149,7 +152,8 @@ class Quick(Room):
         return f"{self.kit_name}{crate.own_stamp}\n{''.join(below)}"
 
     def is_proved(self, crate):
-        """Whether a crate is proved, over the libraries in use below it. It is in use then too."""
+        """Whether a crate is proved over the libraries that are in use below it. If so, it is in use
+        too."""
         below = crate.all_below()
         if not below.keys() <= self.statements.keys():
             return False
@@ -162,7 +166,7 @@ class Quick(Room):
         return True
 
     def place_of_whole(self, crate):
-        """Where a crate lies that was proved whole, over what is in use below it, if it was."""
+        """Returns where a crate is that was proved whole, over the crates in use below it, or None."""
         if not all(self.statements[it].startswith(WHOLE) for it in crate.all_below()):
             return None
         return next(filter(None, (place(crate) for place in self.places)), None)
@@ -192,11 +196,11 @@ class Quick(Room):
         return [it for it in crates if self.is_proved(it)], []
 
     def keep(self, crate):
-        """What is built quickly is for this clone alone."""
+        """Keeps nothing: a quick build is for this clone alone."""
 
 
 def statements_of(library):
-    """A sum of all that a crate above can read of a library."""
+    """Returns a checksum of everything that a crate above can read of a library."""
     with open(os.path.join(library, MODULES), encoding="utf-8") as file:
         made = {name: rest for name, _, _, *rest in map(json.loads, file)}
     found = hashlib.sha256()
@@ -211,7 +215,7 @@ def statements_of(library):
 
 
 def is_of_body(name, made):
-    """Whether a file is one of those in which the proof of a function is written."""
+    """Whether a file belongs to the proof of a function's body."""
     folder, _, last = name.rpartition("/")
     return last in PROOFS and f"{folder[len(TEXTS):]}/Met" in made
 
@@ -221,13 +225,13 @@ def is_made_of_body(module):
 
 
 def stated_in(path, name, made):
-    """What a file of a library says to crates above."""
+    """Returns what a file of a library says to crates above."""
     if name == MODULES:
         return [(it, sums) for it, sums in made.items() if not is_made_of_body(it)]
     with open(path, "rb") as file:
         text = file.read()
     if name == "format":
-        # Its last two lines are sums of the library, code and all.
+        # Its last two lines are checksums of the library with its code.
         lines = text.split(b"\n")
         return [it for it in lines if not it.startswith((b"checked ", b"sum "))]
     return hashlib.sha256(text).hexdigest()

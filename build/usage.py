@@ -1,12 +1,12 @@
-"""Reads the arguments of a script in Python. --help prints the script's docstring, and an unknown
-argument ends the script with status 2.
-"""
+"""Reads the arguments of a script in Python. --help prints the script's docstring. An unknown argument
+ends the script with status 2."""
 
 import sys
 
 
 def words(document, *known, most=0):
-    """The words that the script was given: options that are known, and at most so many others."""
+    """Returns the words that the script was given: known options, and at most `most` others. With --help
+    it prints the docstring and ends the script."""
     given = sys.argv[1:]
     if "--help" in given or "-h" in given:
         print(document.strip())
@@ -18,6 +18,6 @@ def words(document, *known, most=0):
 
 
 def fail(why):
-    """Ends a script that can't do what it is asked: there is no verdict."""
+    """Ends a script that can't do what it was asked to do, with status 2: there is no verdict."""
     print(why, file=sys.stderr)
     sys.exit(2)

@@ -1,5 +1,5 @@
-"""The ways in which the tests ask: the client's own, where what answers is built, and each by the
-reference beside."""
+"""The ways in which the tests evaluate expressions: the client's own ways, if a library or program is
+built, and two ways with the reference of tests/fuzzing in its place."""
 
 import contextlib
 import os
@@ -15,7 +15,7 @@ REFERENCE = os.path.join(os.path.dirname(os.path.realpath(__file__)), "reference
 
 
 def built(variable, crate):
-    """A built program itself, which answers sooner than its script, where there is one."""
+    """The path of a built program, which answers sooner than its script, or None."""
     path = os.environ.get(variable) or os.path.join(TOP, "crates", crate, "out", crate)
     return path if os.access(path, os.X_OK) else None
 
@@ -25,7 +25,7 @@ FRAMES = built("TENSOR_FRAMES", "tensor_frames")
 
 
 def referring():
-    """The library's functions by the reference, and a library of the client over them."""
+    """The reference as the library's functions, and a library of the client over them."""
     functions = reference_frames.Functions()
     with unittest.mock.patch("ctypes.CDLL", return_value=functions):
         return functions, Library("reference")
@@ -33,13 +33,13 @@ def referring():
 
 @contextlib.contextmanager
 def by_process():
-    """A process a request, asked by a text."""
+    """A process for each request, which takes a text."""
     yield lambda expr, **settings: client.run(expr, **{"program": ONE, **settings})
 
 
 @contextlib.contextmanager
 def by_frame():
-    """A process a request, asked by a frame."""
+    """A process for each request, which takes a frame."""
     yield lambda expr, **settings: client.run(expr, program=FRAMES, way="frames", **settings)
 
 
@@ -65,7 +65,7 @@ def by_session(way, program):
         yield session.run
 
 
-# Each way: what answers in it, whether that is there, and what opens it.
+# By way: what answers, whether it is there, and what opens it.
 WAYS = {
     "process": ("tensor_run", ONE, by_process),
     "frame": ("tensor_frames", FRAMES, by_frame),
@@ -78,7 +78,7 @@ WAYS = {
 
 
 class OneWay:
-    """Tests that are run in each way, a class each, which names its own."""
+    """Tests that run in each way. There is a class for each way, which names its way."""
 
     way = ""
 
@@ -97,7 +97,7 @@ class OneWay:
 
 
 def only_by(*ways):
-    """Marks a test that these ways alone have."""
+    """Marks a test that runs only in these ways."""
 
     def mark(test):
         test.ways = ways
@@ -107,7 +107,7 @@ def only_by(*ways):
 
 
 def each_way(names, cases, ways=tuple(WAYS)):
-    """Puts a test class for each of these ways of a class of cases into a module's names."""
+    """Puts a test class for each of these ways into a module's names, given a class of cases."""
     for way in ways:
         name = cases.__name__ + "By" + way.title().replace(" ", "")
         own = {it: None for it, test in vars(cases).items() if way not in getattr(test, "ways", ways)}

@@ -1,6 +1,6 @@
-"""Makes the client's wheel and its source archive for pip, from Python's own library alone: a build
-backend as PEP 517 and PEP 660 have it, so that `pip install ./python` fetches nothing, nor does
-`pip install -e ./python`. The same files make the same bytes, whenever and wherever."""
+"""Makes the client's wheel and its source archive for pip, with Python's standard library alone. It is a
+build backend by PEP 517 and PEP 660, so `pip install ./python` and `pip install -e ./python` fetch
+nothing. Equal files make equal bytes, at any time and place."""
 
 import base64
 import gzip
@@ -15,7 +15,7 @@ import zipfile
 HERE = os.path.dirname(os.path.realpath(__file__))
 PACKAGE = "tensor_client"
 PURE = "py3-none-any"
-# The first time that a zip archive can tell: that of all files where SOURCE_DATE_EPOCH isn't set.
+# The earliest time in a zip archive. All files have it if SOURCE_DATE_EPOCH isn't set.
 FIRST_TIME = 315_532_800
 
 
@@ -29,12 +29,12 @@ def text_of(*names):
 
 
 def when():
-    """The time of all files, in seconds."""
+    """Returns the time of all files, in seconds."""
     return max(FIRST_TIME, int(os.environ.get("SOURCE_DATE_EPOCH", FIRST_TIME)))
 
 
 def files():
-    """The package's files, as pairs of name and bytes."""
+    """Yields the package's files, as pairs of name and bytes."""
     found = [
         os.path.join(at, it)
         for at, _, names in os.walk(os.path.join(HERE, PACKAGE))
@@ -47,14 +47,14 @@ def files():
 
 
 def metadata():
-    """What the package is, for pip: its fields, and its page."""
+    """Returns the metadata for pip: the fields, and README.md as the description."""
     project = text_of("pyproject.toml")
     fields = {
         "Metadata-Version": "2.1",
         "Name": PACKAGE,
         "Version": version(),
         "Summary": re.search(r'(?m)^description = "(.+)"$', project)[1],
-        "Requires-Python": ">=3.8",
+        "Requires-Python": re.search(r'(?m)^requires-python = "(.+)"$', project)[1],
         "Description-Content-Type": "text/markdown",
     }
     classes = re.findall(r'(?m)^    "(.+ :: .+)",$', project)
@@ -64,7 +64,7 @@ def metadata():
 
 
 def write_wheel(folder, contents, tag=PURE):
-    """Writes a wheel of these files, pairs of name and bytes, and tells its name."""
+    """Writes a wheel of these files, pairs of name and bytes, and returns its name."""
     name, record = f"{PACKAGE}-{version()}-{tag}.whl", []
     about, is_pure = f"{PACKAGE}-{version()}.dist-info", str(tag == PURE).lower()
     wheel = f"Wheel-Version: 1.0\nGenerator: build_wheel\nRoot-Is-Purelib: {is_pure}\nTag: {tag}\n"
@@ -85,17 +85,17 @@ def write_wheel(folder, contents, tag=PURE):
 
 
 def build_wheel(wheel_directory, config_settings=None, metadata_directory=None):
-    """Writes the wheel, and tells its name."""
+    """Writes the wheel, and returns its name."""
     return write_wheel(wheel_directory, files())
 
 
 def build_editable(wheel_directory, config_settings=None, metadata_directory=None):
-    """Writes a wheel that has no package, but the path of this one, and tells its name."""
+    """Writes a wheel with the path of this package in place of the package, and returns its name."""
     return write_wheel(wheel_directory, [(f"{PACKAGE}.pth", f"{HERE}\n".encode())])
 
 
 def build_sdist(sdist_directory, config_settings=None):
-    """Writes the archive of the sources, and tells its name."""
+    """Writes the archive of the sources, and returns its name."""
     top = f"{PACKAGE}-{version()}"
     own = [(it, text_of(it).encode()) for it in ("README.md", "build_wheel.py", "pyproject.toml")]
     packed = io.BytesIO()

@@ -1,5 +1,5 @@
-"""Random arrays for the tests, the same at each run, and how what is asked of them is compared with
-what numpy gives."""
+"""Random arrays for the tests, equal at each run, and the comparison of results over them with
+numpy's."""
 
 import random
 
@@ -15,7 +15,7 @@ TRIALS = 4
 
 
 class Random:
-    """Arrays of random dims and values, in either order of memory, the same at each run."""
+    """Arrays of random dims and values, in either order of memory, equal at each run."""
 
     def __init__(self, seed):
         self.source = random.Random(seed)
@@ -36,18 +36,18 @@ class Random:
         return numpy.array(values, dtype=numpy.int64).reshape(dims, order="CF"[self.upto(1)])
 
     def some(self, count):
-        """A list of some of so many axes, in any order."""
+        """A list of some of this many axes, in any order."""
         return self.source.sample(range(count), self.upto(count))
 
     def index(self, dim):
-        """A number or a slice, of either sign, for an axis of so many places."""
+        """A number or a slice, of either sign, for an axis of this many places."""
         if self.upto(2) == 0:
             return self.source.randrange(-dim, dim)
         ends = [self.source.choice([None, self.source.randrange(-dim - 1, dim + 2)]) for _ in "ab"]
         return slice(*ends, self.source.choice([None, 1, 2, 3, -1, -2]))
 
     def indices(self, dims):
-        """Indices of several forms, for dims."""
+        """Indices of several forms, for these dims."""
         full = tuple(map(self.index, dims))
         yield full
         yield full[0]
@@ -61,7 +61,7 @@ class Random:
 
 
 class ByNumpy(OneWay):
-    """Expressions over random arrays, and the same by numpy."""
+    """Compares expressions over random arrays with numpy's results."""
 
     def agree(self, expr, wanted, source):
         found = self.ask(expr, **source.request())

@@ -1,9 +1,10 @@
 #!/usr/bin/env python3
-"""Answers frames as docs/FRAMES.md has them, by the plain reference of tests/fuzzing, which shares
-nothing with the programs: from standard input to standard output, or as the library's functions.
+"""Answers frames by docs/FRAMES.md, with the plain reference of tests/fuzzing, which shares nothing with
+the programs. It runs as a program between standard input and standard output, or in place of the
+library's functions.
 
-What the client hands over is looked at, as include/tensor.h asks for it: a client that owes a
-pointer or a length ends here, and in the library nobody would notice.
+Arguments of the client are checked by include/tensor.h. A client that passes a wrong pointer or length
+fails here, while the library wouldn't notice it.
 """
 
 import ctypes
@@ -16,7 +17,7 @@ import sys
 TOP = os.path.normpath(os.path.join(os.path.dirname(os.path.realpath(__file__)), ".."))
 sys.path.insert(0, os.path.join(TOP, "tests"))
 sys.dont_write_bytecode = True
-# The reference goes down an expression by calls of itself.
+# The reference evaluates an expression by recursion.
 sys.setrecursionlimit(max(20_000, sys.getrecursionlimit()))
 
 from fuzzing import reference, sharing
@@ -26,7 +27,7 @@ from fuzzing.rules import FAULTS, FRAME_VERSIONS, is_list_of, is_size
 SIZES = struct.Struct("<QQ")
 MOST, MOST_PLACES = 16_777_216, 10_000_000
 TOO_LONG, NO_ROOM = b"error 1 TooLong", -100
-# What the first number of a plan of the reference is, and the place of its pool.
+# The first number of the reference's plans, and the address of its pool.
 PLAN, POOL = 67, 64
 
 
@@ -35,8 +36,8 @@ def numbers_of(data):
 
 
 def filled(fields, values):
-    """What a header's JSON value says, with the values that stand behind it as `data`; without its
-    inputs where those aren't its tensors'."""
+    """Returns a header's JSON value with the values after it as `data`. If the inputs don't fit the
+    values, it has no inputs."""
     if not isinstance(fields, dict) or not isinstance(fields.get("inputs"), dict):
         return fields
     begin, inputs = 0, fields["inputs"]
@@ -50,7 +51,7 @@ def filled(fields, values):
 
 
 def answered(header, values):
-    """The header and the values of the answer to a frame."""
+    """Returns the header and the values of the answer to a frame."""
     if len(header) > MOST or len(values) > reference.values_limit(header):
         return TOO_LONG, []
     line, _ = reference.line_of(
@@ -69,7 +70,7 @@ def fault_number(header):
 
 
 class Functions:
-    """The library's functions, called over the same pointers and lengths as the library's own."""
+    """The library's functions, with the library's own arguments."""
 
     def __init__(self):
         pointer, length, number = ctypes.c_void_p, ctypes.c_size_t, ctypes.c_int64
@@ -94,11 +95,12 @@ class Functions:
         self.tensor_pool_run = of_pool(functools.partial(self.in_parts, self.run))
         self.tensor_pool_evaluate_arrays = of_pool(functools.partial(self.in_parts, self.evaluate_arrays))
         self.tensor_pool_close = ctypes.CFUNCTYPE(None, pointer)(lambda pool: None)
-        # What was owed, and how often dims alone were asked for.
+        # The wrong arguments, and the number of calls for dims alone.
         self.owed, self.asked_dims = [], 0
 
     def owe(self, read, written):
-        """Notes what a caller owes: pointers, aligned; what is written overlaps nothing."""
+        """Notes wrong arguments: pointers that are null or not aligned, and memory for results that
+        overlaps other memory."""
         for place, count, width in (*read, *written):
             if not place or place % width:
                 self.owed.append(f"a pointer {place} to {count} of {width} bytes")
@@ -122,7 +124,7 @@ class Functions:
         return len(found)
 
     def answered_over(self, header, length, arrays, count, written):
-        """The header and the values of the answer over arrays."""
+        """Returns the header and the values of the answer over arrays."""
         held = list(struct.iter_unpack("<QQ", ctypes.string_at(arrays, 16 * count)))
         read = [(header, length, 1), (arrays, 2 * count, 8), *((*it, 8) for it in held)]
         self.owe(read, written)
@@ -144,7 +146,7 @@ class Functions:
         return len(part)
 
     def in_parts(self, call, pool, text, length, arrays, count, first, out, room, parts):
-        """What a call of a pool does: one call for each part."""
+        """Does what a call of a pool does, by one call for each part."""
         if pool != (POOL if parts > 1 else None) or not parts:
             self.owed.append(f"the pool of {parts} parts")
         ends = [room * it // max(parts, 1) for it in range(max(parts, 1) + 1)]
@@ -155,7 +157,7 @@ class Functions:
         return min(found) if min(found) < 0 else sum(found)
 
     def prepare(self, header, length, count, plan, plan_room):
-        """The plan is a mark, and the header's length and its bytes, a number each."""
+        """Writes a plan: a mark, the header's length and its bytes, with a number for each."""
         self.owe([(header, length, 1)], [(plan, plan_room, 8)])
         text = ctypes.string_at(header, length)
         found, _ = answered(text, [0] * count)
@@ -204,7 +206,7 @@ class Functions:
 
 
 def main():
-    """The program of frames."""
+    """Runs as the program of frames."""
     source, sink = sys.stdin.buffer, sys.stdout.buffer
     while True:
         sizes = source.read(SIZES.size)

@@ -1,5 +1,5 @@
-"""Tests of the client on random arrays: each operation and each of numpy's ways, in each way to ask
-and by numpy. They are skipped where numpy isn't installed."""
+"""Tests of the client on random arrays: each operation, and each of numpy's ways to use arrays, is
+compared with numpy, in each way to evaluate. They are skipped if numpy isn't installed."""
 
 import unittest
 
@@ -36,7 +36,7 @@ ELEMENTWISE = {
     "or": lambda a, b: (a != 0) | (b != 0),
     "select": lambda c, a, b: numpy.where(c != 0, a, b),
 }
-# What frames alone have.
+# Operations that only frames have.
 ON_INTEGERS = {
     "floor_divide": lambda a, b: a // b,
     "remainder": lambda a, b: a % b,
@@ -58,7 +58,7 @@ REDUCTIONS = {
 
 
 def convolved(array, kernel, axes):
-    """A convolution by numpy: the parts of an array that lie under each value of the kernel."""
+    """Convolves by numpy: the parts of an array under each value of the kernel are added up."""
     total = numpy.zeros(slid(array.shape, kernel.shape, axes), dtype=numpy.int64)
     for index in numpy.ndindex(kernel.shape):
         part = [slice(None)] * array.ndim
@@ -70,7 +70,7 @@ def convolved(array, kernel, axes):
 
 @unittest.skipIf(numpy is None, "numpy isn't installed")
 class AgainstNumpy(ByNumpy):
-    """Each operation on random arrays, and by numpy."""
+    """Each operation on random arrays, compared with numpy."""
 
     def test_elementwise(self):
         for operation, wanted in ELEMENTWISE.items():
@@ -281,7 +281,7 @@ class AgainstNumpy(ByNumpy):
                 self.agree(client.einsum(labels, *arrays), wanted, source)
 
     def test_functions_of_numpy(self):
-        # Those that call a method; others ask an expression for its values, which it refuses.
+        # Only functions that call a method. Others ask an expression for its values, which it refuses.
         for source in self.each_trial("numpy"):
             array = source.array([3, 4])
             x = tensor(array) + 1

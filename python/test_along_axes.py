@@ -1,6 +1,6 @@
-"""Tests of the client's operations along one axis on random arrays, empty ones too: in each way to
-ask, as texts have them, and by numpy; and on some hundred thousand values, in parts. They are
-skipped where numpy isn't installed."""
+"""Tests of the client's operations along one axis. On random arrays, also empty ones, they are compared
+with numpy in each way to evaluate, and as texts have them. On arrays of some hundred thousand values
+they are computed in parts. The tests are skipped if numpy isn't installed."""
 
 import math
 import unittest
@@ -20,19 +20,19 @@ except ImportError:
     numpy = None
 
 
-# Of some hundred thousand values: one line, a few long ones or many short ones, and three axes.
+# Dims with some hundred thousand values: one line, a few long or many short lines, and three axes.
 MANY = [(300_007,), (3, 100_003), (61, 71, 83)]
 
 
 def first_of(array, axis, first):
-    """An argmax or argmin by numpy; 0 of nothing."""
+    """Returns numpy's argmax or argmin; 0 for an empty axis."""
     if array.shape[axis]:
         return first(array, axis)
     return numpy.zeros(array.shape[:axis] + array.shape[axis + 1 :], dtype=numpy.int64)
 
 
 def taken(array, indices, axis):
-    """A take by numpy, 0 where the axis has no such index: a zero stands behind each line."""
+    """Returns numpy's take, with 0 for an index out of range: a zero is put after each line."""
     length = array.shape[axis]
     zeros = numpy.zeros_like(array, shape=array.shape[:axis] + (1,) + array.shape[axis + 1 :])
     is_there = (indices >= 0) & (indices < length)
@@ -42,7 +42,7 @@ def taken(array, indices, axis):
 
 @unittest.skipIf(numpy is None, "numpy isn't installed")
 class AlongAxes(ByNumpy):
-    """Operations along one axis on random arrays, and by numpy."""
+    """Operations along one axis on random arrays, compared with numpy."""
 
     def along(self, operation, wanted):
         for source in self.each_trial(operation):
@@ -83,7 +83,7 @@ class AlongAxes(ByNumpy):
                         wanted = taken(array, indices, axis)
                         self.agree(expr, wanted, source)
                         self.agree(as_in_texts(expr), wanted, source)
-                    # Where they aren't known, those from behind are there too, and others give 0.
+                    # In an expression, negative offsets count from the end too, and others out of range give 0.
                     known = numpy.where(indices < 0, indices + length, indices)
                     expr = client.take(array, tensor(indices) + 0, axis)
                     self.agree(expr, taken(array, known, axis), source)
@@ -96,7 +96,7 @@ class AlongAxes(ByNumpy):
                 count = int(numpy.prod(dims))
                 numbers = [source.source.randrange(-length, length) for _ in range(count)]
                 indices = numpy.array(numbers, dtype=numpy.int64).reshape(dims)
-                # No text has a remainder.
+                # Texts have no remainder.
                 modes = [("raise", 1), ("clip", 3)] + [("wrap", 3)] * (self.way not in TEXTS)
                 for mode, most in modes:
                     wanted = numpy.take(array, indices * most, axis, mode=mode)
@@ -109,7 +109,7 @@ class AlongAxes(ByNumpy):
 
 @unittest.skipIf(numpy is None, "numpy isn't installed")
 class ManyAlongAxes(OneWay):
-    """Operations along one axis on some hundred thousand values, in parts, and by numpy."""
+    """Operations along one axis on some hundred thousand values, in parts, compared with numpy."""
 
     def agree(self, expr, wanted):
         for workers in (1, 2, 4):
@@ -117,7 +117,7 @@ class ManyAlongAxes(OneWay):
             numpy.testing.assert_array_equal(found, wanted, f"{expr!r} on {workers}")
 
     def each(self):
-        """Arrays in either order of memory, with each of their axes."""
+        """Yields arrays in both orders of memory, with each of their axes."""
         for dims in MANY:
             values = line(math.prod(dims))
             for order in "CF"[: len(dims)]:
@@ -129,12 +129,12 @@ class ManyAlongAxes(OneWay):
     def test_cumulative(self):
         for array, axis in self.each():
             self.agree(tensor(array).cumsum(axis), array.cumsum(axis))
-            # Of odd numbers no product comes to 0.
+            # A product of odd numbers isn't 0.
             self.agree(tensor(array | 1).cumprod(axis), (array | 1).cumprod(axis))
 
     def test_first_places(self):
         for array, axis in self.each():
-            # Of five numbers the greatest and the least stand in many places.
+            # With only five different values, the greatest and the least are at many places.
             for it in (array, array % 5):
                 self.agree(tensor(it).argmax(axis), it.argmax(axis))
                 self.agree(tensor(it).argmin(axis), it.argmin(axis))
@@ -142,7 +142,7 @@ class ManyAlongAxes(OneWay):
     def test_take(self):
         for array, axis in self.each():
             length = array.shape[axis]
-            # Some of them aren't there.
+            # Some of the offsets are out of range.
             indices = line(length) % (length + 2) - 1
             self.agree(tensor(array).taken(tensor(indices), axis), taken(array, indices, axis))
 

@@ -1,5 +1,5 @@
-"""Tests of tensors where numpy's arrays are expected: printed, as numbers and truth values, gone
-over, and in numpy's own functions."""
+"""Tests of tensors in place of numpy's arrays: printed, as numbers and truth values, in loops, and in
+numpy's own functions."""
 
 import random
 import sys
@@ -119,7 +119,7 @@ class Values(unittest.TestCase):
 
 @unittest.skipIf(numpy is None, "numpy isn't installed")
 class Places(unittest.TestCase):
-    """Other values at some places, and by numpy."""
+    """Other values at some places, compared with numpy."""
 
     def test_places(self):
         source = numpy.random.default_rng(1)
@@ -157,7 +157,7 @@ class Places(unittest.TestCase):
 
 @unittest.skipIf(numpy is None, "numpy isn't installed")
 class Lent(unittest.TestCase):
-    """Values that other libraries take where they lie, and numbers without a sign."""
+    """Values that other libraries borrow without a copy, and numbers without a sign."""
 
     def test_protocols(self):
         array = numpy.arange(6).reshape(2, 3)
@@ -206,7 +206,7 @@ class Lent(unittest.TestCase):
 
 @unittest.skipIf(numpy is None, "numpy isn't installed")
 class Functions(unittest.TestCase):
-    """numpy's own functions, over tensors and over what isn't answered."""
+    """numpy's own functions, over tensors and over expressions that haven't run."""
 
     def test_tensors_are_arrays(self):
         array = numpy.array([[3, 1, 2], [9, 8, 7]])

@@ -1,7 +1,5 @@
-"""Tests of what the client asks, in each way: answers and faults, which are the same in all.
-
-The programs and the library are the repository's own, or those that the environment names.
-"""
+"""Tests of what the client asks, in each way: all ways give equal answers and faults. The programs and
+the library are the repository's own, or the ones that the environment names."""
 
 import os
 import re
@@ -14,20 +12,20 @@ from tensor_client.finding import TOP
 from asking import OneWay, each_way
 
 
-# The ways whose requests are texts, which have no version 3.
+# The ways that ask by texts, which have no version 3.
 TEXTS = "process", "lines"
 
 
 def method(expr, operation):
-    """The method of an operation; Python's own words have a line behind them, and where numpy's
-    word means something else the request's operation has another name."""
+    """Returns the method of an operation. If the name is a word of Python, an underscore follows it. If
+    numpy's method of this name means something else, the request's operation has another name."""
     others = {"reshape": "in_dims", "pad": "zeros_around"}
     others.update((it, it + "_") for it in ("not", "and", "or"))
     return getattr(expr, others.get(operation, operation))
 
 
 def wrapped(value, count):
-    """What the loop of differences below comes to, by numbers of Python."""
+    """Returns the result of the loop of differences below, by Python's numbers."""
     for it in range(count):
         value = it - (value - GREATEST - it) + 1
     return (value + 2**63) % 2**64 - 2**63
@@ -39,7 +37,8 @@ def text_of(name):
 
 
 def documented():
-    """The operations of the tables in docs/REQUEST.md and docs/FRAMES.md. No method is a let."""
+    """Returns the operations in the tables of docs/REQUEST.md and docs/FRAMES.md, except `let`, which is
+    no method."""
     tables = text_of("REQUEST.md") + text_of("FRAMES.md")
     cells = re.findall(r'(?m)^\| (`\["\w+", [^|]*) \|', tables)
     return {name for cell in cells for name in re.findall(r'"(\w+)"', cell)} - {"let"}
@@ -95,7 +94,7 @@ class Asked(OneWay):
         self.assertFalse(self.ask(tensor([1, 5]) + 1).truth)
 
     def test_many_tensors(self):
-        # Of the names x0 to x11 the last but one stands third.
+        # In the order of names, x10 is the third of x0 to x11.
         parts = [tensor([it, -it], dims=(2,)) for it in range(12)]
         found = self.ask(client.stack(parts, axis=1))
         self.assertEqual(found.nested(), [list(range(12)), [-it for it in range(12)]])

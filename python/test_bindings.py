@@ -1,5 +1,6 @@
-"""Tests of what a request binds by `let`: which parts, in which order, how many nodes it then has and
-which version; and programs whose loops are one request, in each way that has them, and by numpy."""
+"""Tests of what a request binds by `let`: which parts, in which order, how many nodes the request then
+has, and which version. Also programs whose loops are one request, compared with numpy in each way that
+has bindings."""
 
 import contextlib
 import itertools
@@ -20,27 +21,28 @@ try:
 except ImportError:
     numpy = None
 
-# The ways whose requests are frames, or frames' headers.
+# The ways that ask by frames, or by headers of frames.
 WAYS = "library", "frame", "frames", "reference frames", "reference library"
 ROWS = tensor([[1, 2, 3], [4, 5, 6]])
-# As many steps of a loop as are to be one request.
+# The steps of a loop that one request has.
 STEPS = 48
 
 
 def chain(expr, nodes):
-    """Operations place by place over an expression, that have so many nodes with it."""
+    """Elementwise operations over an expression, which have this many nodes with it."""
     for _ in range(nodes - 1):
         expr = -expr
     return expr
 
 
 def asked(expr, **settings):
-    """What the header of a frame says."""
+    """Returns the JSON value of a frame's header."""
     return json.loads(framed(expr, Settings(**settings)).header)
 
 
 def lets(tree):
-    """The lets in front of a tree, each as its name and its tree, and what stands behind them."""
+    """Returns the bindings at the beginning of a tree, each as its name and its tree, and the tree after
+    them."""
     found = []
     while isinstance(tree, list) and tree[0] == "let":
         found.append(tree[1:3])
@@ -49,7 +51,7 @@ def lets(tree):
 
 
 def nodes_of(tree):
-    """How many nodes a tree has."""
+    """Returns how many nodes a tree has."""
     if not isinstance(tree, list):
         return 1
     front, rest = lets(tree)
@@ -97,14 +99,14 @@ class Bound(unittest.TestCase):
 
     def test_places_that_are_asked_for(self):
         rows = chain(tensor([[1, 2], [3, 4], [5, 6], [7, 8]]), LEAST_NODES)
-        # Some rows of several; all, by parts or with others; what is repeated counts once.
+        # A part is bound if all its rows are asked for, and not for some of them. Repeated rows count once.
         self.bound(rows[0] + rows[2])
         self.bound(rows[:2] - rows[2:], rows)
         self.bound(rows + rows[0], rows)
         self.bound(rows[0].broadcast(9) + rows[1].broadcast(9))
         self.bound(rows[:1].sum() + rows[1:2].max())
         self.bound(rows.sum() + rows[0], rows)
-        # Where they would be long, parts are bound whatever is asked for.
+        # In a long expression, parts are bound whatever is asked for.
         part = chain(tensor(range(2**20)), LEAST_NODES)
         few = part
         for _ in range(6):
@@ -120,15 +122,15 @@ class Bound(unittest.TestCase):
         self.bound(tensor(7))
 
     def test_what_stands_below(self):
-        # The sum stands once in a part, which stands twice and is short.
+        # The sum is used once, in a short part that is used twice.
         total = ROWS.sum(0)
         part = ROWS - total
         self.bound(part * part, total)
-        # It stands once in each of the parts that are bound.
+        # The sum is used once in a bound part, or once more beside it.
         long = chain(part, LEAST_NODES)
         self.bound(long * long, long)
         self.bound(long * long + total, total, long)
-        # What is worked out as a list is one node of what stands above.
+        # A part that is evaluated as a list is one node of the expression above.
         self.bound(chain(total, LEAST_NODES - 1) * chain(total, 2), total)
 
     def test_in_order_of_dependence(self):
@@ -183,7 +185,7 @@ class Bound(unittest.TestCase):
         self.assertEqual(len(bound), MOST_BOUND)
         with self.assertRaisesRegex(client.TooLarge, "nodes: too many.* 10,000 and.*in parts"):
             framed(part, Settings())
-        # A few more stand as often as they are used.
+        # Parts above the limit are written as often as they are used.
         part = chain(ROWS.sum(), 2)
         for _ in range(MOST_BOUND + 2):
             part = (part * part).sum()
@@ -191,7 +193,7 @@ class Bound(unittest.TestCase):
         self.assertLess(nodes_of(asked(part)["expr"]), MOST_NODES)
 
     def test_what_would_nest_too_deep(self):
-        # Of what is deep each so many operations are bound, and of what stands twice none.
+        # A deep part is bound after each 60 operations, and a part that is used twice isn't bound.
         deep = ROWS.sum()
         for number in range(90):
             part = tensor([number]).sum()
@@ -205,7 +207,7 @@ class Bound(unittest.TestCase):
             self.assertEqual(len(lets(asked(long)["expr"])[0]), (count - 2) // 59 * (count > 120))
         self.assertRaisesRegex(client.TooLarge, "in parts", asked, chain(ROWS, 9_999))
         self.assertRaisesRegex(client.TooLarge, "in parts", asked, chain(ROWS, 200), version=2)
-        # Chains are balanced, and end at what is bound.
+        # Chains are balanced, and end at bound parts.
         total = ROWS.sum()
         part = total * total
         for number in range(200):
@@ -262,14 +264,14 @@ class Versions(unittest.TestCase):
 
 
 def floyd_and_warshall(ways, minimum):
-    """Steps through each node of a graph in turn, as often as there are steps."""
+    """Steps through the nodes of a graph in turn, this many times."""
     for node in itertools.islice(itertools.cycle(range(len(ways))), STEPS):
         ways = minimum(ways, ways[:, node, None] + ways[node])
     return ways
 
 
 def smoothed(heat, pad):
-    """Three steps of a stencil: four times each value, and its neighbours, shifted back."""
+    """Applies three steps of a stencil: four times each value, plus its neighbours, shifted back."""
     for _ in range(3):
         wide = pad(heat, 1, mode="edge")
         near = wide[2:, 1:-1] + wide[:-2, 1:-1] + wide[1:-1, 2:] + wide[1:-1, :-2]
@@ -281,7 +283,7 @@ class Loops(OneWay):
     """Loops, each of which is one request."""
 
     def asked_once(self, expr, **settings):
-        """The answer to one request."""
+        """Returns the answer to one request."""
         counted = [
             unittest.mock.patch(f"tensor_client.{it}.framed", wraps=framed)
             for it in ("library", "running")
@@ -341,7 +343,7 @@ class Loops(OneWay):
 
 
 class Parts(unittest.TestCase):
-    """What the library does with several threads, and compiled expressions."""
+    """The library with several threads, and compiled expressions."""
 
     def libraries(self):
         functions, library = referring()
@@ -362,7 +364,7 @@ class Parts(unittest.TestCase):
                 found = library.run(expr, Settings(4))
             self.assertEqual(found.values, wanted)
             self.assertEqual(frames.call_count, 2)
-            # Of few values it is one request.
+            # With few values it is one request.
             few = chain(ROWS, LEAST_NODES)
             self.assertEqual(library.run((few * few).sum(), Settings(4)).item(), 91)
 

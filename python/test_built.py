@@ -1,5 +1,5 @@
-"""Tests of what the client makes without the program: tensors, expressions, texts, and refusals
-where they are written."""
+"""Tests of what the client makes without a program: tensors, expressions, texts, and errors when an
+expression is written."""
 
 import importlib.util
 import inspect
@@ -20,7 +20,7 @@ from tensor_client.requests import VERSIONS, Settings, framed
 from test_asked import documented, method
 
 HERE = os.path.dirname(os.path.realpath(__file__))
-# What a user writes, whose types have to be right.
+# A user's program, whose types have to be right.
 USER = """
 from typing import Callable
 
@@ -324,7 +324,7 @@ class Built(unittest.TestCase):
         self.assertEqual(text.count("add"), 999)
         self.assertLess(deepest(text), 16)
         self.assertIn('["sub",["add",', client.request(long - one))
-        # What a long chain takes away is summed, and taken away once.
+        # What a long chain subtracts is summed, and subtracted once.
         mixed, products, bounds = tensor(7), one, one
         for it in range(300):
             mixed = mixed + tensor(it) - (tensor(-it) - one)
@@ -375,7 +375,7 @@ class Installed(unittest.TestCase):
 
 
 def deepest(text):
-    """How many arrays and objects stand in one another."""
+    """Returns how many arrays and objects of a text are inside one another."""
     depth = found = 0
     for it in text:
         depth += (it in "[{") - (it in "]}")

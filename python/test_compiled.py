@@ -1,6 +1,5 @@
-"""Tests of compiled expressions: what calls give, in which order arrays are taken, and that an
-expression is read once. By the library where it is built, by the reference, and where there is
-no library."""
+"""Tests of compiled expressions: the results of calls, the order of arrays, and that an expression is
+read only once. They run with the library if it is built, with the reference, and without a library."""
 
 import random
 import threading
@@ -20,7 +19,7 @@ except ImportError:
 
 
 class Ways:
-    """Tests over the libraries that are there, and over none."""
+    """Tests with the libraries that are there, and without one."""
 
     def libraries(self):
         with unittest.mock.patch("tensor_client.compiled.library_of", return_value=None):
@@ -39,14 +38,14 @@ class Ways:
 
 
 class Compiled(Ways, unittest.TestCase):
-    """Compiled expressions, and functions, with numpy or without."""
+    """Compiled expressions and functions, with numpy or without."""
 
     def test_an_expression(self):
         for _ in self.libraries():
             y, x = placeholder(2, "y"), placeholder((2, 2), "x")
             f = compile(x * 10 - y)
             self.assertEqual(f([1, 2], [[1, 2], [3, 4]]).nested(), [[9, 18], [29, 38]])
-            # Arrays stand in the order in which the placeholders were made, or have names.
+            # Arrays are in the order in which the placeholders were made, or are named.
             self.assertEqual(f([0, 5], x=[[1, 2], [3, 4]]).nested(), [[10, 15], [30, 35]])
             self.assertEqual(f(x=[[0, 0], [0, 0]], y=[1, 2]).nested(), [[-1, -2], [-1, -2]])
             self.assertEqual(f(tensor([1, 2]), [[1, 1], [1, 1]]).dims, (2, 2))
@@ -78,7 +77,7 @@ class Compiled(Ways, unittest.TestCase):
             self.assertEqual(f(same, [0, 1]).values, [10_001, 40_001])
             self.assertEqual(f(constant, constant).values, [10_000, 40_000])
             self.assertEqual(compile(constant + 1)().values, [101, 201])
-            # Of a function, also arguments that it doesn't use.
+            # A function may also have arguments that it doesn't use.
             self.assertEqual(compile(lambda x, y: x * 2)([1], [2, 3]).values, [2])
             self.assertEqual(compile(lambda: constant)().values, [100, 200])
 
@@ -224,7 +223,7 @@ class Arrays(Ways, unittest.TestCase):
             self.assertEqual(g([[0, 0], [0, 0]]).nested(), [[1, 7], [3, 4]])
 
     def test_an_expression_with_many_nodes(self):
-        # Turning inputs back would take too many nodes: they are copied.
+        # Reversing the axes of inputs would take too many nodes, so inputs are copied.
         array = numpy.arange(6).reshape(2, 3)
         x = placeholder((2, 3))
         total = x

@@ -1,5 +1,5 @@
-"""Tests of sessions over connections: answers, arrays that take them, limits of time, and
-connections that are lost. Each is to a service of the test's own, on a Unix socket and on a port."""
+"""Tests of sessions over connections: answers, arrays for answers, timeouts, and lost connections. Each
+connects to a service of the test's own, on a Unix socket and on a port."""
 
 import contextlib
 import itertools
@@ -25,13 +25,13 @@ except ImportError:
     numpy = None
 
 SECONDS, SOON = 30, 0.3
-# More than sockets hold.
+# More values than a socket buffers.
 LARGE = 1_000_000
 X = tensor([1, 2])
 
 
 class Service:
-    """What listens on an address, and has each connection answered on a thread."""
+    """A service at an address, which answers each connection on a thread."""
 
     def __init__(self, answer, room, by_tcp):
         self.answer, self.accepted, self.threads = answer, 0, []
@@ -55,7 +55,7 @@ class Service:
             self.answer(connection)
 
     def close(self):
-        # Without this who accepts isn't told.
+        # Without this, accept() doesn't return.
         self.listener.shutdown(socket.SHUT_RDWR)
         self.listener.close()
         for it in (self.thread, *self.threads):
@@ -63,12 +63,12 @@ class Service:
 
 
 def program(path):
-    """Has connections answered by a program."""
+    """Returns a function that has a program answer a connection."""
     return lambda it: subprocess.run([path], stdin=it, stdout=it, stderr=subprocess.DEVNULL)
 
 
 def lines(connection, most=None):
-    """Answers lines by the reference, so many at most."""
+    """Answers at most this many lines by the reference."""
     with connection.makefile("rwb") as file:
         for line in itertools.islice(file, most):
             file.write(reference_frames.reference.answer(line[:-1], LARGE)[0])
@@ -76,7 +76,7 @@ def lines(connection, most=None):
 
 
 def frames(connection, most):
-    """Answers so many frames by the reference."""
+    """Answers this many frames by the reference."""
     for _ in range(most):
         length, count = SIZES.unpack(received(connection, SIZES.size))
         header = received(connection, length)
@@ -87,7 +87,7 @@ def frames(connection, most):
 
 
 def received(connection, count):
-    """So many bytes, or fewer at the end."""
+    """Returns this many bytes, or fewer at the end."""
     found = b""
     while len(found) < count and (more := connection.recv(count - len(found))):
         found += more
@@ -114,7 +114,7 @@ class Connected(unittest.TestCase):
 
 
 class Answers(Connected):
-    """Answers and faults, over one connection each."""
+    """Answers and faults, each over one connection."""
 
     def test_each_way_at_each_address(self):
         for way, answer in ANSWER.items():
@@ -152,7 +152,7 @@ class Answers(Connected):
 
 @unittest.skipIf(numpy is None, "numpy isn't installed")
 class Arrays(Connected):
-    """Answers of frames that are read into the array that is given."""
+    """Answers of frames that are read into a given array."""
 
     def test_values_go_where_they_are_wanted(self):
         service = self.serving(ANSWER["frames"])
@@ -170,7 +170,7 @@ class Arrays(Connected):
             out = numpy.full(dims, 7)
             self.assertRaises(ValueError, session.run, X + 1, out=out)
             self.assertEqual(set(out.flat), {7})
-        # Whose dims aren't known here.
+        # Here the client doesn't know the dims of the answer.
         out = numpy.zeros((1, 2), int)
         session.run(Expr("reshape", [X], [[1, 2]]), out=out)
         self.assertEqual(out.tolist(), [[1, 2]])
@@ -184,7 +184,7 @@ class Arrays(Connected):
 
 
 class Limits(Connected):
-    """Limits of time, and addresses where nobody listens."""
+    """Timeouts, and addresses where nothing listens."""
 
     def test_no_answer(self):
         over = threading.Event()
@@ -200,7 +200,7 @@ class Limits(Connected):
                 session = self.session(service, way, SOON)
                 self.assertRaisesRegex(client.TimedOut, "answers before: 0", session.run, X)
                 self.assertRaisesRegex(client.ProgramFailed, "closed", session.run, X)
-                # What isn't read.
+                # The service doesn't read this request.
                 session = self.session(service, way, SOON)
                 self.assertRaises(client.TimedOut, session.run, tensor(range(LARGE)))
         over.set()
@@ -226,7 +226,7 @@ class Limits(Connected):
 
 
 class OtherWay(Connected):
-    """Sessions at services that answer in another way: the first exchange tells."""
+    """Sessions at services that answer in another way, which the first exchange shows."""
 
     def test_frames_at_a_service_of_lines(self):
         for timeout in (None, SECONDS):
@@ -254,10 +254,10 @@ class OtherWay(Connected):
 
 
 class Lost(Connected):
-    """Connections that are lost: what is said of them, and that nothing is asked again."""
+    """Lost connections: the message, and that no request is sent again."""
 
     def lost(self, answer, way, regex, asked=0):
-        """Asks so often, then until the connection is lost, and then once more."""
+        """Asks this many times, then until the connection is lost, and then once more."""
         service = self.serving(answer)
         session = self.session(service, way)
         for number in range(asked):
@@ -274,7 +274,7 @@ class Lost(Connected):
         front = {"lines": b'{"data":[3', "frames": SIZES.pack(12, 2) + b'{"dims":[2]}' + bytes(3)}
 
         def goes(way, begun, seen):
-            """Answers three, and of the fourth request this front. What is asked is counted."""
+            """Answers three requests, and begins to answer the fourth. Counts the bytes of the request."""
 
             def answer(connection):
                 some[way](connection, 3)

@@ -1,5 +1,5 @@
-"""Tests of memory: which of numpy's arrays are copied, and which refused, where answers are
-written, and by how many threads. Skipped where numpy isn't installed."""
+"""Tests of memory: which of numpy's arrays are copied and which are refused, where answers are written,
+and by how many threads. They are skipped if numpy isn't installed."""
 
 import os
 import pickle
@@ -23,7 +23,7 @@ except ImportError:
 
 @unittest.skipIf(numpy is None, "numpy isn't installed")
 class Memory(unittest.TestCase):
-    """Arrays that are handed over where they lie, those that are copied, and those refused."""
+    """Arrays that are handed over without a copy, arrays that are copied, and arrays that are refused."""
 
     def shares(self, x, array):
         return numpy.shares_memory(numpy.asarray(x.own), array)
@@ -48,7 +48,7 @@ class Memory(unittest.TestCase):
             array[...] = 3
             for ask in self.ways():
                 self.assertEqual(set(ask(more).values), {4})
-            # What is written into the array is written into the tensor.
+            # Writing into the array changes the tensor.
             array[...] = 7
             self.assertEqual(set(x.values), {7})
             numpy.testing.assert_array_equal(x.array(), array)
@@ -100,7 +100,7 @@ class Memory(unittest.TestCase):
                 self.assertEqual(found.nested(), wanted.tolist())
 
     def ways(self):
-        """The ways that hand values over as they lie and are there."""
+        """Returns the ways that are there and hand values over as they lie."""
         for way, (_, is_there, opened) in WAYS.items():
             if is_there and way in ("library", "frames", "reference library"):
                 with self.subTest(way=way), opened() as ask:
@@ -140,7 +140,7 @@ class Memory(unittest.TestCase):
 
     def test_the_array_of_an_answer(self):
         for way, (_, is_there, opened) in WAYS.items():
-            # By lines the values come as text, and an array is made of them.
+            # By lines the values are a text, of which an array is made.
             if not is_there or way in ("process", "lines"):
                 continue
             with self.subTest(way=way), opened() as ask:
@@ -148,7 +148,7 @@ class Memory(unittest.TestCase):
                     found = ask(tensor(numpy.arange(size)) * 2)
                     self.assertEqual(found.values, list(range(0, 2 * size, 2)))
                     array = found.array()
-                    # By its letter: numpy prints another type of 8 bytes as another one.
+                    # Compared by its letter, since numpy has two integer types of 8 bytes.
                     self.assertEqual(array.dtype.char, numpy.dtype(numpy.int64).char)
                     array += 1
                     self.assertEqual(found.values, list(range(1, 2 * size, 2)))
@@ -192,7 +192,7 @@ class Memory(unittest.TestCase):
 
 @unittest.skipIf(numpy is None, "numpy isn't installed")
 class Out(unittest.TestCase):
-    """Answers that are written into arrays that are there."""
+    """Answers that are written into existing arrays."""
 
     def test_arrays_that_take_an_answer(self):
         flat, rows = numpy.arange(5_000), numpy.arange(5_000).reshape(50, 100)
@@ -249,7 +249,7 @@ class Threads(unittest.TestCase):
             chain = sum(range(operations), x)
             self.assertEqual(parts_worth(chain, size, 8, lambda: 0), count)
             self.assertEqual(parts_worth(chain, size, 8, lambda it=size: it), 1)
-        # Of what combines values into one these count, of what goes along an axis else its own.
+        # For a reduction the combined values count, and for other operations along an axis the result's.
         rows = tensor([0] * LEAST * 3, dims=(LEAST, 3))
         for expr, size, shared, count in (
             (rows.sum(0), 3, 0, 3),
@@ -280,7 +280,7 @@ class Threads(unittest.TestCase):
             (client.Expr("contract", [x, client.Expr("later", [x])], [[[0, 0]]]), 1),
         ):
             self.assertEqual(products(expr), wanted)
-        # What is shared is little beside so many products.
+        # The shared work is little beside this many products.
         self.assertEqual(parts_worth(x @ x.T, LEAST * 4, 4, lambda: LEAST * 4), 4)
 
     def test_nothing_is_asked_for_one_part(self):
@@ -364,7 +364,7 @@ class Threads(unittest.TestCase):
 
     @unittest.skipUnless(hasattr(os, "fork") and library_of(), "there is no fork, or no library")
     def test_a_child(self):
-        """A child has none of the threads of its parent, and opens its own pool."""
+        """A child doesn't have its parent's threads, and opens a pool of its own."""
         x = tensor([0] * 2 * LEAST) + 1
         client.run(x, workers=2, way="library")
         self.assertIn(library_of().path, POOLS)

@@ -1,5 +1,5 @@
-"""Tests of expressions with their axes in reverse order: each operation alone, and drawn ones, over
-inputs in either order."""
+"""Tests of expressions with their axes in reverse order: each operation alone, and random ones, over
+inputs in both orders."""
 
 import random
 import unittest
@@ -14,7 +14,7 @@ from asking import OneWay, each_way
 
 DIMS = (3, 4, 2)
 SEED, DRAWN, STEPS = 1, 200, 5
-# For each operation an expression over two tensors of these dims, one in numpy's order.
+# For each operation, an expression over two tensors of these dims, one of them in C order.
 EACH = {
     "neg": lambda x, y: -x,
     "abs": lambda x, y: abs(x),
@@ -46,25 +46,25 @@ for along in "cumsum cumprod argmax argmin".split():
 
 
 def in_numpys_order(dims, first=0):
-    """A tensor of counted values that lie in numpy's common order."""
+    """Returns a tensor of counted values in C order."""
     numbers = array("q", range(first, first + client.rules.product(dims)))
     return Tensor(memoryview(numbers), dims, turned=True)
 
 
 def in_columns(dims):
-    """One of other values, which lie column-major."""
+    """Returns a tensor of other values, in column-major order."""
     return tensor([it * it % 11 - 5 for it in range(client.rules.product(dims))], dims=dims)
 
 
 def joined_to(source, x):
-    """An operation on an expression and another."""
+    """Returns an operation on an expression and another one."""
     y = in_numpys_order(x.shape, 3) if source.random() < 0.5 else in_columns(x.shape)
     axis = source.randrange(x.ndim)
     return source.choice([x - y, y.concat(x, axis), x.contract(y, [(axis, axis)]), (x < y).select(y, x)])
 
 
 def longer(source, x):
-    """An expression over another, by an operation that is drawn."""
+    """Returns an expression over another one, by a random operation."""
     if x.ndim == 0 or x.ndim > 5 or x.size > 2_000:
         return x.in_dims([x.size])
     axis, order = source.randrange(x.ndim), [*range(x.ndim)]
@@ -91,7 +91,7 @@ def longer(source, x):
 
 
 class Mirrored(OneWay):
-    """The same values, with the axes in reverse order."""
+    """Expressions with equal values, and their axes in reverse order."""
 
     def agree(self, expr):
         found = mirrored(expr)
@@ -120,7 +120,7 @@ class Mirrored(OneWay):
 
 
 class Asked(unittest.TestCase):
-    """Which expressions are asked for so, and how."""
+    """Which expressions are asked for with reversed axes, and how."""
 
     def test_when_it_is_asked_so(self):
         x, few = in_numpys_order((64, 64, 2)), tensor([[[1, 2]]])
@@ -144,7 +144,7 @@ class Asked(unittest.TestCase):
 
 
 def inputs(expr):
-    """The tensors of an expression."""
+    """Returns the tensors of an expression."""
     found, left = [], [expr]
     while left:
         it = left.pop()

@@ -1,5 +1,5 @@
-"""Tests of the lines in lines/, as numpy's users write them: each gives what numpy gives, or says
-why it doesn't. They are skipped where numpy isn't installed."""
+"""Tests of the lines in lines/, as users of numpy write them. Each line gives what numpy gives, or says
+why it doesn't. They are skipped if numpy isn't installed."""
 
 import glob
 import inspect
@@ -21,34 +21,34 @@ except ImportError:
     numpy = None
 
 FOLDER = os.path.join(os.path.dirname(os.path.realpath(__file__)), "lines")
-# What isn't written alike for numpy and for the client, over arrays of a few values.
+# Files whose lines aren't equal for numpy and the client, or go over many values.
 OTHERS = "over_many_values", "of_some_versions", "of_numpy", "refused", "array_api"
-# What is compared once, over tensors and over expressions that haven't run.
+# Files that are compared once, over tensors and over expressions that haven't run.
 OF_USERS = "as_users_write_them", "by_all_arguments", "beside_arrays", "at_the_ends"
 DIMS = {"a": (3, 4), "b": (3, 4), "c": (2, 3, 4), "m": (4, 4), "v": 5, "w": 5}
-# Functions that are the client's own.
+# The client's own functions.
 OWN = {"answer", "compile", "contract", "placeholder", "request", "run", "tensor"}
 
 
 def lines_of(name):
-    """The lines of a file, but for its first, which says what they are."""
+    """Returns the lines of a file, except the first, which says what they are."""
     with open(os.path.join(FOLDER, f"{name}.txt"), encoding="utf-8") as text:
         return text.read().split("\n")[1:-1]
 
 
 def lines():
-    """The lines of all files that are written alike."""
+    """Returns the lines of all files that are equal for numpy and for the client."""
     names = sorted(os.path.basename(it)[:-4] for it in glob.glob(os.path.join(FOLDER, "*.txt")))
     return [line for it in names if it not in OTHERS + OF_USERS for line in lines_of(it)]
 
 
 def paired(name):
-    """The lines of a file, and what stands behind each."""
+    """Returns the lines of a file, each with the text after its bar."""
     return [line.rsplit(" | ", 1) for line in lines_of(name)]
 
 
 def arrays(seed):
-    """Random arrays, small numbers at first, and then of the whole range too."""
+    """Returns random arrays: of small numbers at first, and then of the whole range."""
     source = numpy.random.default_rng(seed)
     found = {name: source.integers(-3, 4, dims) for name, dims in DIMS.items()}
     if seed:
@@ -58,26 +58,26 @@ def arrays(seed):
 
 
 def evaluated(line, module, names):
-    """What a line gives, with the names of a module and of arrays. A line may have statements before
-    its value, which write into no array but their own."""
+    """Returns the value of a line, with the names of a module and of arrays. Statements may come before
+    the value. They write only into arrays of their own."""
     *statements, value = line.split("; ")
     scope = {"np": module, "numpy": numpy, **names}
     with warnings.catch_warnings(), numpy.errstate(over="ignore"):
-        # numpy says so where scalars wrap.
+        # numpy warns if scalars wrap.
         warnings.simplefilter("ignore")
         exec("\n".join(statements), scope)
         return eval(value, scope)
 
 
 def parts(found):
-    """What stands in lists, one after another."""
+    """Returns the items of nested lists, one after another."""
     if isinstance(found, (list, tuple)):
         return [part for it in found for part in parts(it)]
     return [found]
 
 
 class Alike(OneWay):
-    """What is answered, and what numpy gives."""
+    """Compares results with numpy's."""
 
     def agree(self, found, wanted):
         self.assertEqual(len(parts(found)), len(parts(wanted)))
@@ -98,7 +98,7 @@ class Alike(OneWay):
 
 @unittest.skipIf(numpy is None, "numpy isn't installed")
 class Lines(Alike):
-    """Each line over tensors and over arrays, and by numpy."""
+    """Each line over tensors and over arrays, compared with numpy."""
 
     def test_lines(self):
         for seed in range(2):
@@ -146,7 +146,7 @@ class Lines(Alike):
 
 @unittest.skipIf(numpy is None, "numpy isn't installed")
 class Many(Alike):
-    """Lines over many values, which the reference would take minutes for."""
+    """Lines over many values, for which the reference would take minutes."""
 
     def test_lines_over_many_values(self):
         source = numpy.random.default_rng(5)
@@ -164,7 +164,7 @@ class Many(Alike):
 
 
 class Refused(unittest.TestCase):
-    """What is refused, and names that aren't here."""
+    """What is refused, and names that don't exist here."""
 
     @unittest.skipIf(numpy is None, "numpy isn't installed")
     def test_refused(self):

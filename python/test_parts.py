@@ -1,5 +1,5 @@
 """Tests of expressions that are longer or deeper than one request may be: loops of some thousand steps,
-in each way that is there, and by Python."""
+in each way that is there, compared with Python."""
 
 import time
 import unittest
@@ -10,12 +10,12 @@ from tensor_client import tensor
 from tensor_client.rewriting.parts import in_parts
 from asking import OneWay, each_way
 
-# What the loops come to is known for so many steps.
+# The results of the loops are known for this many steps.
 FEW, MANY = 120, 1_200
 
 
 def step(x, add, multiply):
-    """A step of a generator of numbers."""
+    """Applies a step of a generator of numbers."""
     return x * multiply + add
 
 
@@ -30,7 +30,7 @@ def wrapped(value):
 
 
 class Loops(OneWay):
-    """Loops that one request can't have."""
+    """Loops that are too long for one request."""
 
     def test_a_generator_of_numbers(self):
         few = self.way.startswith("reference") or self.way == "process"
@@ -51,7 +51,7 @@ class Loops(OneWay):
 
 
 class Parts(unittest.TestCase):
-    """What parts there are, and how long an expression takes to build."""
+    """The number of parts, and the time in which an expression is built."""
 
     def test_parts(self):
         asked = []

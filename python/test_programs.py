@@ -1,4 +1,4 @@
-"""Tests of the programs in programs/: each gives what its lines for numpy give, in each way."""
+"""Tests of the programs in programs/: each gives what its lines in numpy give, in each way."""
 
 import glob
 import importlib.util
@@ -19,7 +19,7 @@ TRIALS = 3
 
 
 class Source:
-    """Random arrays, the same at each run."""
+    """Random arrays, equal at each run."""
 
     def __init__(self, seed):
         self.source = random.Random(seed)
@@ -53,7 +53,7 @@ def programs():
 
 @unittest.skipIf(numpy is None, "numpy isn't installed")
 class Programs(OneWay):
-    """Each program on random arrays, and by numpy."""
+    """Each program on random arrays, compared with numpy."""
 
     def test_programs(self):
         for name, module in programs():

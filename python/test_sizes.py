@@ -35,7 +35,7 @@ def line(count):
 
 
 def matrix(count):
-    """The same in rows of 128, in numpy's order, as many as there are whole ones."""
+    """Values in rows of 128, in C order, without an incomplete last row."""
     return line(count)[: count // 128 * 128].reshape(-1, 128)
 
 

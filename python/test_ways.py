@@ -1,5 +1,5 @@
-"""Tests of the ways to ask themselves: which is taken, programs that fail or take too long,
-sessions and threads."""
+"""Tests of the ways to evaluate: which way is taken, programs that fail or take too long, sessions and
+threads."""
 
 import contextlib
 import os
@@ -18,9 +18,9 @@ from tensor_client.library import Library, library_named, library_of
 from tensor_client.requests import Settings, framed
 from asking import LINES, ONE, REFERENCE, WAYS, referring
 
-# In seconds: what an answer takes at most, however busy the machine is, and what is too slow.
+# In seconds: more than any answer takes on a busy machine, and the time of a program that is too slow.
 SECONDS, LONG = 120, 600
-# More than a pipe holds.
+# More values than a pipe buffers.
 LARGE = 50_000
 
 
@@ -37,7 +37,7 @@ class Shell(unittest.TestCase):
         return path
 
     def here(self, **names):
-        """An environment that names no program, but for these."""
+        """An environment that names no programs except these."""
         variables = ("PROGRAM", "LINES", "FRAMES", "LIBRARY", "EXPLAIN")
         none = {f"TENSOR_{it}": "" for it in variables}
         return unittest.mock.patch.dict(os.environ, {**none, **names})
@@ -59,7 +59,7 @@ class Found(Shell):
             with unittest.mock.patch("tensor_client.running.library_of", return_value=library):
                 self.assertEqual(client.run(-tensor(5)).item(), -5)
                 self.assertEqual(client.run(-tensor(5), workers=2).item(), -5)
-                # By a process, which a limit of time asks for.
+                # With a timeout, a process answers.
                 with unittest.mock.patch.object(library, "run", side_effect=AssertionError):
                     self.assertEqual(client.run(-tensor(5), timeout=SECONDS).item(), -5)
             with unittest.mock.patch("tensor_client.running.library_of", return_value=None):
@@ -98,7 +98,7 @@ class Found(Shell):
                 program_of(None, nowhere)
 
     def test_nothing_that_answers(self):
-        # As where the package is installed, and nothing else.
+        # As if only the package were installed.
         with self.here(PATH="/nowhere"), unittest.mock.patch.multiple(
             "tensor_client.finding", IS_IN_REPOSITORY=False, LIBRARY="no_library_of_this_name.so"
         ), unittest.mock.patch("tensor_client.library.OPENED", {}):
@@ -107,7 +107,7 @@ class Found(Shell):
             for variable in ("TENSOR_LIBRARY", "TENSOR_FRAMES", "TENSOR_PROGRAM"):
                 self.assertIn(variable, str(raised.exception))
             self.assertNotIn(TOP + "/run", str(raised.exception))
-            said = "TENSOR_LINES isn't set.*a wheel has the library alone.*./install"
+            said = "TENSOR_LINES isn't set.*a wheel has only the library.*./install"
             self.assertRaisesRegex(client.ProgramFailed, said, client.Session)
 
     def test_no_library(self):
@@ -177,7 +177,7 @@ class Failing(Shell):
         self.assertRaises(client.TimedOut, client.run, tensor(1), program=slow, **asked)
         for program, way in ((slow, "lines"), (slow, "frames"), (half, "frames")):
             with client.Session(program=program, way=way, **asked) as session:
-                # What isn't read, since it is more than a pipe holds, and what isn't answered.
+                # A request that isn't read, since a pipe can't hold it, and a request that isn't answered.
                 self.assertRaises(client.TimedOut, session.run, tensor(range(LARGE)))
                 self.assertRaises(client.ProgramFailed, session.run, tensor(1))
             with client.Session(program=program, way=way, **asked) as session:
@@ -198,7 +198,7 @@ class Failing(Shell):
 
 
 class Explained(Shell):
-    """Faults with what the program says that tells where they are."""
+    """Faults with the place and reason of the program that explains them."""
 
     def told(self, lines, fault=None):
         fault = fault or client.UnknownOp()
@@ -243,10 +243,10 @@ class Explained(Shell):
 
 
 class Many(unittest.TestCase):
-    """Many requests, of many threads."""
+    """Many requests, from many threads."""
 
     def ways(self):
-        """All ways that stay open and are there."""
+        """Returns all ways that are there and stay open."""
         for way, (_, is_there, opened) in WAYS.items():
             if is_there and way not in ("process", "frame"):
                 with self.subTest(way=way), opened() as ask:

@@ -1,12 +1,16 @@
 """Rules of the prose of pages and comments: phrases that must not stand, short sentences and cells.
 
 A new phrase is a line of PHRASES, with what to write instead. It has no exceptions. A new beginning that
-names nothing is a word of NAMELESS.
+names nothing is a word of NAMELESS. Both hold in the comments of crates, and in the docstrings and the
+comments of the scripts in SCRIPTS.
 """
 
+import ast
 import glob
+import io
 import os
 import re
+import tokenize
 
 import pytest
 
@@ -58,6 +62,11 @@ NEAR = (r"\b[Tt]hat of\b", r"\b[Tt]hose of\b")
 DOC_COMMENT = re.compile(r"(?m)(?:^[ \t]*///.*\n)+|(?:^[ \t]*//!.*\n)+")
 SOURCES = sorted(glob.glob(os.path.join(TOP, "crates/*/**/*.rt"), recursive=True))
 CRATES = sorted({os.path.relpath(it, TOP).split(os.sep)[1] for it in SOURCES})
+# Sources in Python, and other scripts and lists, whose comments begin with `#`.
+SCRIPTS = ["python/*.py", "python/tensor_client/**/*", "tools/**/*", "build/**/*", "bench/**/*"]
+HASH_COMMENT = re.compile(r"(?m)(?:^[ \t]*#(?!!).*\n)+")
+# What tools read, and no reader.
+MARK = re.compile(r"#!|# (type|noqa|pylint):")
 SENTENCE_WORDS, CELL_WORDS, README_LINES = 35, 25, 150
 FENCE = re.compile(r"(?ms)^```.*?^```$")
 SENTENCE = re.compile(r"(?<=[.:;?!])\s+(?=[A-Z`\[*])")
@@ -142,3 +151,66 @@ def test_comments_have_no_phrase_that_has_a_plain_word(crate):
         phrases = [it for it in PHRASES if it not in NEAR]
         found += [(file, it, PHRASES[by]) for by in phrases for it in re.findall(by, text)]
     assert not found, "each phrase, and what to write instead"
+
+
+def kind_of(path):
+    """What a file of SCRIPTS is: "python", "sh", or "" for others, such as data."""
+    with open(path, encoding="utf-8", errors="replace") as file:
+        first = file.readline()
+    if path.endswith(".py") or re.match("#!.*python", first):
+        return "python"
+    return "sh" if first.startswith("#") and "." not in os.path.basename(path) else ""
+
+
+def scripts():
+    """The files of SCRIPTS that have comments, with their kinds."""
+    found = [it for pattern in SCRIPTS for it in glob.glob(os.path.join(TOP, pattern), recursive=True)]
+    files = [it for it in sorted(found) if os.path.isfile(it) and "__pycache__" not in it]
+    kinds = {os.path.relpath(it, TOP): kind_of(it) for it in files}
+    return {path: kind for path, kind in kinds.items() if kind}
+
+
+SCRIPT_KINDS = scripts()
+
+
+def plain(text):
+    """A comment or a docstring on one line, without its examples."""
+    return " ".join(re.sub(r"(?m)^\s*#+ ?", "", re.split(r"(?m)^\s*>>> ", text)[0]).split())
+
+
+def sentences_in(tree):
+    """The docstrings of a module, and other texts that are sentences, as some become docstrings."""
+    documents = {it.value for it in ast.walk(tree) if isinstance(it, ast.Expr)}
+    for it in ast.walk(tree):
+        if isinstance(it, ast.Constant) and isinstance(it.value, str):
+            if it in documents or re.match(r"\s*[A-Z][\w'-]* .*[.:]", it.value, re.DOTALL):
+                yield it.value
+
+
+def comments_of(path):
+    """The comments and docstrings of a script, each on one line."""
+    text = text_of(path)
+    if SCRIPT_KINDS[path] == "sh":
+        return [plain(it) for it in HASH_COMMENT.findall(text)]
+    tokens = tokenize.generate_tokens(io.StringIO(text).readline)
+    lines, last = [], None
+    for it in tokens:
+        if it.type == tokenize.COMMENT and not MARK.match(it.string):
+            is_next = it.start[0] - 1 == last and it.line.lstrip().startswith("#")
+            lines = [*lines[:-1], f"{lines[-1]}\n{it.string}"] if is_next else [*lines, it.string]
+            last = it.start[0]
+    return [plain(it) for it in [*lines, *sentences_in(ast.parse(text))]]
+
+
+@pytest.mark.parametrize("path", SCRIPT_KINDS)
+def test_comments_of_scripts_are_plain(path):
+    found = []
+    for it in comments_of(path):
+        found += [(it, "begin with the noun")] if NAMELESS.match(it) else []
+        found += [(it, PHRASES[by]) for by in PHRASES if by not in NEAR and re.search(by, it)]
+    assert not found, "each comment, and what to write instead"
+
+
+@pytest.mark.parametrize("pattern", SCRIPTS)
+def test_scripts_are_there(pattern):
+    assert glob.glob(os.path.join(TOP, pattern), recursive=True)

@@ -1,4 +1,4 @@
-"""The Debian packages of a release: which files each has, and its description."""
+"""The Debian packages of a release: the files of each, and its description."""
 
 import email.utils
 
@@ -7,9 +7,9 @@ from packing import File, deb, gzipped
 ARCHITECTURE = "amd64"
 LIBRARIES = "usr/lib/x86_64-linux-gnu"
 CLIENT = "usr/lib/python3/dist-packages"
-# Where ./install puts units for systemd, which looks for them there below /usr.
+# Where ./install puts units for systemd. systemd looks for them there below /usr.
 UNITS = "lib/systemd/"
-# A package's architecture and section, what it depends on beside the C library, and what it is.
+# By package: its architecture, its section, what it depends on besides the C library, and what it is.
 PACKAGES = {
     "tensor": (ARCHITECTURE, "math", "", "programs that answer integer tensor expressions"),
     "libtensor1": (ARCHITECTURE, "libs", "", "integer tensor expressions, in the calling process"),
@@ -31,11 +31,11 @@ DESCRIPTION = """ Expressions over tensors of 64-bit integers, whose sums and pr
  Eigen's Tensor module. What is answered is proved. It takes a processor of
  the level x86-64-v2.
 """
-# Why a program and a library keep their tables of names.
+# Why a program and a library aren't stripped.
 AS_LINKED = """# As the kit has linked it, byte for byte: whoever builds it can compare it.
 unstripped-binary-or-object
 """
-# What Python compiles of the client comes and goes with it.
+# Python's compiled files of the client are made and removed with it.
 BYTE_CODE = """#!/bin/sh
 set -e
 if command -v COMMAND >/dev/null; then
@@ -54,12 +54,12 @@ OWN_CONTROL = {
 }
 
 
-# What is for programs that call the library.
+# The files for programs that call the library.
 DEVELOPING = "lib/", "include/", "share/man/man3/"
 
 
 def package_of(path):
-    """The package that has a file of ./install."""
+    """Returns the package that has a file of ./install."""
     if path == "lib/libtensor.so.1":
         return "libtensor1"
     if path.startswith(UNITS):
@@ -68,7 +68,7 @@ def package_of(path):
 
 
 def placed(it):
-    """A file of ./install as Debian wants it below /usr."""
+    """Returns a file of ./install with its place in Debian, below /usr."""
     path, found, mode = f"usr/{it.path}", it.contents, it.mode
     if it.path.startswith("lib/") and not it.path.startswith(UNITS):
         path = f"{LIBRARIES}/{it.path[len('lib/') :]}"
@@ -82,7 +82,8 @@ def placed(it):
 
 
 def documents(name, release):
-    """What Debian has of each package: its changes, its rights, and what is as it has to be."""
+    """Yields the documents that Debian wants in each package: its changes, its rights, and the warnings
+    that don't apply."""
     date = email.utils.formatdate(release.when)
     changes = f"tensor ({release.version}) unstable; urgency=medium\n\n  * As CHANGELOG.md says.\n"
     changes += f"\n -- {release.maker}  {date}\n"
@@ -93,7 +94,7 @@ def documents(name, release):
 
 
 def control(name, files, release):
-    """The control files of a package."""
+    """Returns the control files of a package."""
     architecture, section, depends, what = PACKAGES[name]
     least = release.least_glibc(files)
     needs = ([f"libc6 (>= {least})"] if least else []) + ([depends] if depends else [])
@@ -115,7 +116,7 @@ def control(name, files, release):
 
 
 def packages(release):
-    """The Debian packages, as pairs of name and bytes."""
+    """Yields the Debian packages, as pairs of name and bytes."""
     found = {name: [*documents(name, release)] for name in PACKAGES}
     for it in release.files:
         found[package_of(it.path)].append(placed(it))

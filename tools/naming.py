@@ -11,7 +11,7 @@ import json
 import os
 import re
 
-# A function from its attributes on: how far it stands in, and its name.
+# A function from its attributes on: its indentation, and its name.
 WORDS = r"(?:pub(?:\([\w:]+\))? )?(?:(?:const|final|unsafe|extern \"C\") )*"
 FUNCTION = re.compile(rf"(?m)^( *)(?:#\[.*\]\n\1)*{WORDS}fn (\w+)")
 CYCLE = re.compile(r"#\[cycle\((\w+)\)\]")
@@ -27,21 +27,21 @@ def module_of(file):
 
 
 class Block(collections.namedtuple("Block", "trait type arguments")):
-    """An impl or a trait: the trait that an impl is of, if any, the type, or the trait itself, and the
-    names that the type is applied to."""
+    """An impl or a trait: the trait of an impl, if any; the type, or the trait itself; and the names of
+    the type's arguments."""
 
 
 class Function(collections.namedtuple("Function", "module block name cycle")):
-    """A function of a source: the module of its file, the block in which it stands, if any, its
-    name, and the cycle of calls that shares its proof, if any."""
+    """A function of a source: the module of its file, the block around it, if any, its name, and the
+    cycle of calls that shares its proof, if any."""
 
     def proof(self):
-        """What stands for its proof, which is one for all functions of a cycle."""
+        """Returns what identifies its proof. The functions of a cycle have one proof."""
         return self._replace(name=f"+{self.cycle}") if self.cycle else self
 
     def path_in(self, names, declared):
-        """The one path among these that is the prover's name of it, or None; modules in which types
-        of its type's name are declared are given."""
+        """Returns the only one of these paths that is the prover's name of the function, or None.
+        `declared` has the modules that declare types of its type's name."""
         fits = [it for it in names if self.fits(it, declared)]
         for is_closer in (self.is_here, self.is_of_type, self.is_of_arguments) if self.block else ():
             fits = [it for it in fits if is_closer(it)] or fits
@@ -67,7 +67,7 @@ class Function(collections.namedtuple("Function", "module block name cycle")):
         return path[-2] == "+".join([self.block.type, *self.block.arguments])
 
     def guessed_path(self, declared):
-        """The prover's name of it where its impl is of a type at any arguments."""
+        """Returns the prover's name of the function, if its impl is of a type with any arguments."""
         if not self.block:
             return (*self.module, self.name)
         is_here = self.block.trait or self.module in declared or not declared
@@ -76,7 +76,7 @@ class Function(collections.namedtuple("Function", "module block name cycle")):
 
 
 def function_at(file, text, place):
-    """The function in which a place of a source lies, or None."""
+    """Returns the function in which a place of a source is, or None."""
     before = [it for it in FUNCTION.finditer(text) if it.start() <= place]
     if not before:
         return None
@@ -95,8 +95,8 @@ def function_at(file, text, place):
 
 
 class Sources:
-    """The sources of a crate, the modules that declare the types of a name, and the prover's names of
-    the crate's functions, once a library lists them."""
+    """The sources of a crate, the modules that declare each type's name, and the prover's names of the
+    crate's functions, if a library lists them."""
 
     def __init__(self, folder):
         self.folder, self.names, self.types = folder, None, collections.defaultdict(list)
@@ -107,14 +107,14 @@ class Sources:
                     self.types[name].append(module_of(file))
 
     def text(self, file):
-        """The text of a file, which is empty where there is none."""
+        """Returns the text of a file, or an empty text if there is no file."""
         if not os.path.isfile(os.path.join(self.folder, file)):
             return ""
         with open(os.path.join(self.folder, file), encoding="utf-8") as text:
             return text.read()
 
     def path_of(self, function):
-        """The path that is the prover's name of a function, or None where none fits, or several do."""
+        """Returns the path that is the prover's name of the function, or None if none or several fit."""
         declared = self.types[function.block.type] if function.block else []
         if self.names is None:
             return function.guessed_path(declared)
@@ -122,8 +122,8 @@ class Sources:
 
 
 def names_in(library, crate):
-    """The prover's names of a crate's functions, as the library that it has built lists them, or None
-    where it has built none."""
+    """Returns the prover's names of a crate's functions, as its built library lists them, or None
+    without one."""
     try:
         with open(os.path.join(library, "toolchain", "mir.json"), encoding="utf-8") as file:
             found = [tuple(name.split("::")) for name, _ in json.load(file)]

@@ -9,14 +9,14 @@ import tarfile
 
 
 class File:
-    """A file of a package: its path there, its mode, and its contents, or where it is a link to."""
+    """A file of a package: its path there, its contents, its mode, and its target if it is a link."""
 
     def __init__(self, path, contents, mode=0o644, link=None):
         self.path, self.contents, self.mode, self.link = path, contents, mode, link
 
 
 def files_of(folder):
-    """All files below a folder, of which only whether they can be run is taken over."""
+    """Yields all files below a folder. Of their modes, only whether they can be run is kept."""
     for at, folders, names in os.walk(folder):
         folders.sort()
         for path in (os.path.join(at, it) for it in sorted(names)):
@@ -30,7 +30,7 @@ def files_of(folder):
 
 
 def folders_of(paths):
-    """The folders that these paths lie in, each behind the one that it lies in."""
+    """Returns the folders of these paths, each after the folder that it is in."""
     found = set()
     for it in paths:
         while it := os.path.dirname(it):
@@ -39,7 +39,7 @@ def folders_of(paths):
 
 
 def tar(files, when, top="", folders=True):
-    """The bytes of a tar archive, all of whose files are root's and of this time."""
+    """Returns the bytes of a tar archive, whose files are root's and of this time."""
     packed = io.BytesIO()
     with tarfile.open(fileobj=packed, mode="w", format=tarfile.GNU_FORMAT) as archive:
 
@@ -64,13 +64,14 @@ def gzipped(found):
 
 
 def xz(found):
-    """The bytes of a file of xz, which packs what is for x86 best, and is unpacked in 16 MiB."""
+    """Returns the bytes of an xz file, with a filter for x86 code. Unpacking it takes 16 MiB."""
     best = {"id": lzma.FILTER_LZMA2, "preset": 9 | lzma.PRESET_EXTREME, "dict_size": 1 << 24}
     return lzma.compress(found, lzma.FORMAT_XZ, filters=[{"id": lzma.FILTER_X86}, best])
 
 
 def deb(control, files, when):
-    """The bytes of a Debian package of these control files, texts by their names, and files."""
+    """Returns the bytes of a Debian package with these control files, texts by their names, and these
+    files."""
     sums = "".join(
         f"{hashlib.md5(it.contents).hexdigest()}  {it.path}\n"
         for it in sorted(files, key=lambda it: it.path)

@@ -1,4 +1,4 @@
-"""Parts of the documents that a tool prints, between marks that name the tool."""
+"""Parts of the documents that a tool prints, between marks with the tool's name."""
 
 from usage import fail
 

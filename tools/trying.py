@@ -15,14 +15,14 @@ import tempfile
 
 from naming import function_at
 
-# What the prover prints where a goal isn't proved: at a place of a source, or also of a proof.
+# What the prover prints if a goal isn't proved: at a place of a source, or also of a proof.
 GOAL = re.compile(r"note: (src/\S+?):(\d+):\d+: (?:it is not proved|`search` found no proof)")
 REFUSAL = re.compile(rf"\S+:\d+:\d+: error|{GOAL.pattern}")
-# What it prints where it begins no proof: of a source, or of a name that `--only` asks for.
+# What it prints if it begins no proof: about a source, or about a name that `--only` asks for.
 ERROR = re.compile(r"(?:\./)?(src/\S+?):(\d+):\d+: error")
 QUOTED = re.compile(r"`([^`]+)`")
-# A proof that misses a name which the edit took away was refused for that, and by no contract; and so
-# was a body that is of no form which the prover reads.
+# These lines judge nothing. The edit took away a name that a proof needs, or the prover can't read the
+# form of the body. No contract has refused the edit.
 NO_GOAL = re.compile(
     r"has no field|is not in scope|has no `|was not admitted|borrow checker does not cover"
 )
@@ -32,7 +32,7 @@ LONGEST_CHECK = 7200
 
 class Edit:
     """An edit: its path and name, its changes, the functions that it changes, whether it changes more
-    than functions, and why it can't be applied, if it can't."""
+    than functions, and the reason if it can't be applied."""
 
     def __init__(self, path, sources):
         self.path, self.name = path, os.path.basename(path).removesuffix(".edit")
@@ -50,7 +50,7 @@ class Edit:
         self.why = "" if self.applied({}) else "a text doesn't stand in its file once"
 
     def applied(self, texts):
-        """These texts with its changes too, or None where one isn't to be made there."""
+        """Returns these texts with the edit's changes, or None if a change can't be made there."""
         texts = dict(texts)
         for file, old, new in self.changes:
             text = texts.get(file) or self.sources.text(file)
@@ -58,7 +58,7 @@ class Edit:
                 return None
             if function := function_at(file, text, text.index(old)):
                 self.functions.add(function)
-            # What stands before an item is another item, which some changed function calls.
+            # Text before an item is another item, which a changed function calls.
             self.is_wide |= not function and not new.endswith(old)
             texts[file] = text.replace(old, new)
         return texts
@@ -67,18 +67,19 @@ class Edit:
         return {it.proof() for it in self.functions}
 
     def asked(self):
-        """The prover's names of its functions, as `--only` takes them."""
+        """Returns the prover's names of the functions, as `--only` takes them."""
         return {"::".join(self.sources.path_of(it)) for it in self.functions}
 
     def needs_whole(self):
-        """Why no check of functions judges it, if none does."""
+        """Returns the reason if no check of functions can judge the edit, or None."""
         if not self.functions:
             return "it changes no function's body"
         unnamed = next((it for it in self.functions if not self.sources.path_of(it)), None)
         return unnamed and f"the prover has no one name for {'::'.join([*unnamed.module, unnamed.name])}"
 
     def lines_of(self, pattern, lines, texts):
-        """The lines of this pattern whose places lie in its functions, as they are in these texts."""
+        """Returns the lines of this pattern whose places are in the edit's functions, as these texts
+        have them."""
         found = []
         for line, at in [(it, at) for it in lines if (at := pattern.match(it))]:
             text = texts.get(at[1]) or self.sources.text(at[1])
@@ -95,11 +96,11 @@ class Trial:
         self.crate, self.edits, self.room = crate, edits, room
         kept = os.path.join(room, f"{crate.name}.kept")
         self.words = [*words, "--jobs", "1", "--incremental", kept]
-        # The edits that are tried by a check of the whole crate, and why.
+        # The edits that a check of the whole crate tries, and why.
         self.alone = {}
 
     def judged(self):
-        """Each edit and the word for it, as it is judged."""
+        """Yields each edit and the word for it, when it is judged."""
         for it in [it for it in self.edits if it.why]:
             yield it, f"SAYS NOTHING: {it.why}"
         left = [it for it in self.edits if not it.why]
@@ -115,8 +116,8 @@ class Trial:
             yield it, self.word_alone(it, why)
 
     def words_for(self, edits):
-        """The words for those of these edits that one check of their functions judges. Where it begins
-        no proof, those of them that it speaks of are tried apart from the others."""
+        """Returns the words for the edits that one check of their functions judges. If the check begins
+        no proof, the edits that it names are tried apart from the others."""
         texts = with_all(edits)
         asked = sorted(set().union(*(it.asked() for it in edits)))
         status, lines = self.check(texts, [f"--only={it}" for it in asked])
@@ -135,7 +136,7 @@ class Trial:
         return self.words_for([it for it in edits if it not in blamed]) | self.words_for(blamed)
 
     def word_for(self, edit, lines, texts):
-        """The word for an edit by what the prover says of its functions, if that judges it."""
+        """Returns the word for an edit, if what the prover says of its functions judges it."""
         own, said = edit.lines_of(GOAL, lines, texts), []
         for function in edit.functions:
             *module, name = path = edit.sources.path_of(function) or (function.name,)
@@ -151,7 +152,7 @@ class Trial:
         return "PROVED" if is_proved and not edit.is_wide else None
 
     def word_alone(self, edit, why):
-        """The word for an edit by a check of the whole crate, and why it takes one."""
+        """Returns the word for an edit by a check of the whole crate, and why it needs one."""
         status, lines = self.check(edit.applied({}), [])
         if status == 0:
             return "PROVED"
@@ -163,7 +164,8 @@ class Trial:
         return f"SAYS NOTHING: {told(goals or lines)}"
 
     def check(self, texts, flags):
-        """The status of a check of a copy of the crate with these texts, and the lines that it printed."""
+        """Checks a copy of the crate with these texts. Returns the status and the lines that were
+        printed."""
         with tempfile.TemporaryDirectory(prefix="edit-", dir=self.room) as room:
             for part in PARTS:
                 if os.path.isdir(os.path.join(self.crate.folder, part)):
@@ -178,12 +180,12 @@ class Trial:
                 ran = subprocess.run(words, **how, check=False, timeout=LONGEST_CHECK)
             except subprocess.TimeoutExpired:
                 return None, [f"no verdict in {LONGEST_CHECK} s"]
-        # What is set in belongs to the line above.
+        # An indented line belongs to the line above.
         return ran.returncode, re.sub(r"\n +", " ", ran.stdout).rstrip("\n").split("\n")
 
 
 def next_round(left):
-    """As many of these edits as change different functions, or one that changes more than functions."""
+    """Returns edits for one round: as many as change different functions, or one that changes more."""
     if wide := [it for it in left if it.is_wide]:
         return wide[:1]
     changed, together, texts = set(), [], {}
@@ -195,7 +197,7 @@ def next_round(left):
 
 
 def with_all(edits):
-    """The texts with the changes of all of these edits."""
+    """Returns the texts with the changes of all these edits."""
     texts = {}
     for it in edits:
         texts = it.applied(texts)
@@ -203,5 +205,5 @@ def with_all(edits):
 
 
 def told(lines):
-    """What of these lines says why there is no verdict."""
+    """Returns the line that says why there is no verdict."""
     return next((it for it in lines if ": error" in it), lines[-1])

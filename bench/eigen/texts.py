@@ -1,9 +1,8 @@
 """The requests that bench/eigen/run times: texts by name, workers and block.
 
-Each ends in a sum, or is a sum, where its answer would be long; so what is timed is starting,
-reading, making the operands and the work itself, and little printing. Those of `numbers` are the
-other way round: all reading and printing. The forms stand in requests.cpp too, which answers no
-others.
+A request whose answer would be long ends in a sum. So mainly starting, reading, making the operands and
+the work are timed, and little printing. The requests of `numbers` are all reading and printing instead.
+requests.cpp has these forms too, and answers no others.
 """
 
 import math
@@ -16,7 +15,7 @@ MOST_PLACES = 1_048_576
 
 
 def numbers(count, seed, bound=2**63):
-    """Numbers from -bound up to bound, the same at each call."""
+    """Returns numbers in [-bound, bound), equal ones at each call."""
     source = random.Random(seed)
     return [source.randrange(-bound, bound) for _ in range(count)]
 
@@ -42,7 +41,7 @@ def nest(count, front, inner, back):
 
 
 def squares(times, expr, lowest_bit=0, bound=2**63):
-    """A request over squares of 64 by 64 numbers, repeated so often along both axes."""
+    """Returns a request over squares of 64 by 64 numbers, repeated `times` along both axes."""
     a, b = SQUARE.format(times), SQUARE.format(times).replace('"a"', '"b"')
     inputs = {"a": ([64, 64], [it | lowest_bit for it in numbers(4096, 3, bound)])}
     if "{b}" in expr:
@@ -51,7 +50,7 @@ def squares(times, expr, lowest_bit=0, bound=2**63):
 
 
 def sums_of_three(axis):
-    """Sums of x*y+x along an axis of 128 by 128 by 64 places, added up."""
+    """Returns sums of x*y+x along an axis of 128 by 128 by 64 places, added up."""
     a = '["broadcast","a",[8,8,4]]'
     b = a.replace('"a"', '"b"')
     inputs = {"a": ([16] * 3, numbers(4096, 3)), "b": ([16] * 3, numbers(4096, 4))}
@@ -65,7 +64,7 @@ def cubes(dims, times, expr):
 
 
 def convolved(dims, times, kernel):
-    """The sum of a convolution of numbers, repeated so often along each axis, under a kernel."""
+    """Returns the sum of a convolution of numbers, repeated along each axis, with a kernel."""
     places, weights = 64 ** len(dims), kernel ** len(dims)
     axes = listed(range(len(dims)))
     inputs = {"a": (dims, numbers(places, 7)), "k": ([kernel] * len(dims), numbers(weights, 8))}
@@ -77,13 +76,13 @@ def whole(expr):
 
 
 def added(count, bound=2**63):
-    """Two lists of so many numbers, added and printed."""
+    """Returns a request that adds two lists of `count` numbers, and prints the sums."""
     inputs = {"a": ([count], numbers(count, 1, bound)), "b": ([count], numbers(count, 2, bound))}
     return inputs, '["add","a","b"]'
 
 
 def worked_out(places):
-    """(x + x) * x over so many places, added up; the text has at most 64 numbers."""
+    """Returns (x + x) * x over `count` places, added up. The text has at most 64 numbers."""
     count = min(places, 64)
     a = LINE.format(places // count)
     return {"a": ([count], numbers(count, 6))}, f'["sum",["mul",["add",{a},{a}],{a}],[0]]'
@@ -95,7 +94,7 @@ def nested():
 
 CHIP = '["chip",["slice",["reverse",{a},[true,true,false]],[1,1,0],[1023,511,2]],1,2]'
 CONTRACTED = '["contract",["add",{{a}},{{b}}],["mul",{{a}},{{b}}],{}]'
-# What each is, and its inputs and expression.
+# By name: what a request is, and its inputs and expression.
 REQUESTS = {
     "numbers-2": ("2 numbers and 2, added", lambda: added(2)),
     "numbers-40000": ("40,000 numbers and as many, added", lambda: added(40_000)),
@@ -207,7 +206,7 @@ REQUESTS = {
         lambda: convolved([64], [16384], 64),
     ),
 }
-# The same for each size: all reading and printing, and all work.
+# By size: requests that are all reading and printing, and requests that are all work.
 SIZES = [4**power for power in range(11)]
 PRINTED = {size: lambda size=size: added(size, 100_000) for size in SIZES}
 WORKED = {size: lambda size=size: worked_out(size) for size in SIZES}

@@ -1,20 +1,20 @@
-"""Builds tensor expressions, has them answered, by the library in this process or by a program, and
-gives their values.
+"""Builds tensor expressions of 64-bit integers, and evaluates them by a library in this process or by a
+program.
 
     from tensor_client import run, tensor, where
     x = tensor([[1, 2, 3], [4, 5, 6]])
     run(where(x < 4, x * 10, x)).nested()
 
-Python's own library is enough; where numpy is installed, tensors are made of arrays and give them.
+Python's standard library is enough. If numpy is installed, tensors are made of arrays and return arrays.
 
-Column-major, the first axis fastest: so the values of a tensor stand in a request, in an answer
-and in `Tensor.values` (numpy's order="F"), whatever order lists and arrays have themselves.
+The values of a tensor are column-major, the first axis fastest, in a request, in an answer and in
+`Tensor.values` (numpy's order="F"), whatever the order of lists and arrays.
 """
 
 import typing
 from builtins import bool as bool
 
-from .expressions import Expr as Expr  # Before the tensors, which it needs and which need it.
+from .expressions import Expr as Expr  # Before tensors, which need it and which it needs.
 
 from .compiled import compile as compile
 from .faults import *
@@ -27,13 +27,13 @@ from .values import GREATEST as GREATEST, LEAST as LEAST, numpy as _numpy
 
 __version__ = "3.0.0"
 
-# As numpy names what makes a new axis of an index, and the dtypes that values can be asked for as.
+# numpy's names for a new axis in an index, and for the dtypes that values can have.
 newaxis = None
 int64 = int_ = int
 bool_ = bool
 
 if not typing.TYPE_CHECKING:
-    # All of that, but for the modules that it stands in.
+    # All names above, except modules.
     __all__ = [
         name
         for name, it in globals().items()
@@ -42,5 +42,5 @@ if not typing.TYPE_CHECKING:
     __all__ += ["__version__"]
 
     def __getattr__(name):
-        """What numpy has, and isn't here."""
+        """Returns what numpy has and this package lacks."""
         return _function_of(_numpy, name, "tensor_client", __all__)

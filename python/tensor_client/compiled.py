@@ -1,5 +1,5 @@
-"""Expressions that are made once and answered over many arrays: their text is written, read and
-checked once, and a call hands over arrays alone."""
+"""Expressions that are compiled once and called with many arrays. The request is written, read and
+checked once, and a call only hands over arrays."""
 
 from __future__ import annotations
 
@@ -24,7 +24,7 @@ from .tensors import Placeholder, Tensor, an_expr, placeholder, tensor
 from .threads import parts_worth
 from .values import numpy
 
-# Up to so many values an answer is a list, which costs less than memory of its own.
+# An answer of at most this many values is a list, which costs less than new memory.
 FEW = 64
 ARRAY = None if numpy is None else numpy.ndarray
 addressof: Callable[[Any], int] = ctypes.addressof
@@ -44,11 +44,14 @@ def compile(*, workers: int = 1) -> Callable[[Callable[..., Any]], Traced]: ...
 
 
 def compile(what: Any = None, *, workers: int = 1) -> Any:
-    """A function of arrays that gives the tensor of an expression's values. It takes an array for
-    each placeholder, in the order in which these were made, or by its name; `out=` as `run` does.
+    """Returns a function of arrays that evaluates an expression over placeholders. It takes an array for
+    each placeholder, by position in the order in which the placeholders were made, or by name. It
+    returns a tensor, and takes `out` as `run` does.
 
-    Of a function of expressions it makes one of arrays, which is traced once for each dims that
-    its arguments have. Where there is no library each call is a `run`.
+    Given a Python function of expressions, `compile` returns a function of arrays. It calls the Python
+    function once for each new combination of dims of its arguments. `workers` is the number of threads.
+    Without the library each call is a `run`. A call raises ShapeMismatch if an array has other dims than
+    its placeholder, and TypeError if an array is missing.
 
     >>> x, y = placeholder(2), placeholder(2)
     >>> f = compile(x * 10 + y)
@@ -66,11 +69,11 @@ def compile(what: Any = None, *, workers: int = 1) -> Any:
         return Compiled(what, placeholders_of(what), Settings(workers))
     if callable(what):
         return Traced(what, Settings(workers))
-    raise TypeError(f"an expression or a function is compiled, and no {type(what).__name__}")
+    raise TypeError(f"compile takes an expression or a function, and no {type(what).__name__}")
 
 
 def placeholders_of(expr: Expr) -> List[Placeholder]:
-    """The placeholders of an expression, in the order in which they were made."""
+    """Returns the placeholders of an expression, in the order in which they were made."""
     found: Dict[int, Placeholder] = {}
     left, seen = [expr], set()
     while left:
@@ -84,8 +87,8 @@ def placeholders_of(expr: Expr) -> List[Placeholder]:
 
 
 def as_lent(expr: Expr) -> Expr:
-    """The expression over arrays where they lie, also those of few values: so each call has what was
-    written there before it."""
+    """Returns the expression over the memory of all its arrays, also of small ones. So each call reads
+    what was written into them before."""
     few = {
         id(it): Tensor(it.own, it.dims or (), it.truth, turned=True)
         for it in in_order(expr)
@@ -95,16 +98,16 @@ def as_lent(expr: Expr) -> Expr:
 
 
 class Plan:
-    """What the library has prepared for an expression whose inputs lie in these orders, and what it
-    is handed beside the arrays of a call: those that stand in the expression itself, as they lie
-    when it is prepared."""
+    """What the library has prepared for an expression whose inputs lie in these orders. A plan also has
+    the other arrays that the library takes: the arrays in the expression itself, as they lay when it was
+    made."""
 
     def __init__(
         self, library: Library, expr: Expr, inputs: Sequence[Tensor], settings: Settings, out: Any
     ) -> None:
         expr = as_lent(expr)
         result = Result(expr, out)
-        # Few values are a list, which stands column-major.
+        # A few values are a list, in column-major order.
         if out is None and product(expr.dims or ()) <= FEW:
             result.turned = False
         self.is_turned, self.truth = result.turned, expr.truth
@@ -121,8 +124,8 @@ class Plan:
 
         self.parts = parts_worth(expr, self.size, settings.workers, shared)
         self.room = ctypes.c_int64 * self.size
-        # Where each array lies and how many values it has, one behind another; and where among
-        # these numbers the arrays of a call stand.
+        # `pairs` has the address and the size of each array. `slots` says which of these numbers
+        # is the address of which array of a call.
         own = {id(it.own): at for at, it in enumerate(inputs)}
         which = [own.get(id(it)) for it in frame.held]
         self.slots = [(2 * at, it) for at, it in enumerate(which) if it is not None]
@@ -132,7 +135,7 @@ class Plan:
         self.many, self.packed = len(pairs), struct.Struct(f"@{2 * len(pairs)}Q").pack
 
     def arrays_at(self, places: Sequence[int]) -> bytes:
-        """The arrays of a call, which lie at these places, among all that the library takes."""
+        """Returns the addresses and sizes of all arrays, with the arrays of a call at these addresses."""
         pairs = self.pairs[:]
         for at, which in self.slots:
             pairs[at] = places[which]
@@ -140,12 +143,12 @@ class Plan:
 
 
 class Compiled:
-    """An expression that is answered at each call, over the arrays of the call."""
+    """A compiled expression: a function of arrays that returns a tensor."""
 
     def __init__(self, expr: Expr, inputs: Sequence[Placeholder], settings: Settings) -> None:
         self.expr, self.inputs, self.settings = expr, list(inputs), settings
         self.dims: List[Dims] = [it.dims or () for it in inputs]
-        # Where there are too many nodes, what lies in numpy's order is copied into the request's.
+        # With too many nodes, arrays in C order are copied to column-major order.
         self.as_they_lie = lies_as_it_is(expr, MOST_NODES)
         self.library = library_of()
         self.plans: Dict[Any, Plan] = {}
@@ -154,7 +157,7 @@ class Compiled:
         return f"<compiled {self.expr!r} of {len(self.inputs)} arrays>"
 
     def __call__(self, *values: Any, out: Any = None, **named: Any) -> Tensor:
-        """The tensor of the expression's values over these arrays."""
+        """Returns the tensor of the expression over these arrays."""
         if named or len(values) != len(self.inputs):
             values = self._in_order(values, named)
         library = self.library
@@ -170,15 +173,13 @@ class Compiled:
         if plan is None or plan.size > FEW or out is not None:
             return self._at_length(library, key, places, kept, out)
         room, arrays = plan.room(), plan.arrays_at(places)
-        count = library.run_plan(
-            plan.numbers, plan.length, arrays, plan.many, 0, room, plan.size
-        )
+        count = library.run_plan(plan.numbers, plan.length, arrays, plan.many, 0, room, plan.size)
         if count != plan.size:
             raise library.failed(count)
         return Tensor(room[:], plan.dims, plan.truth)
 
     def _in_order(self, values: Sequence[Any], named: Dict[str, Any]) -> Tuple[Any, ...]:
-        """The values of a call, where some are named, in the order of the placeholders."""
+        """Returns the arrays of a call, some of which are named, in the order of the placeholders."""
         left = dict(named)
         behind = [left.pop(it.name) for it in self.inputs[len(values) :] if it.name in left]
         if left or len(values) + len(behind) != len(self.inputs):
@@ -186,7 +187,7 @@ class Compiled:
         return (*values, *behind)
 
     def _filled(self, tensors: Iterable[Tensor]) -> Expr:
-        """The expression over tensors in the place of its placeholders."""
+        """Returns the expression with these tensors in place of its placeholders."""
         given: Dict[int, Expr] = {}
         for it, found in zip(self.inputs, tensors):
             if found.dims != it.dims:
@@ -195,12 +196,12 @@ class Compiled:
         return with_others(self.expr, given)
 
     def _lying(self, value: Any, dims: Dims) -> Tuple[int, Any, bool]:
-        """Where a value of a call lies, what keeps it there, and whether it lies in numpy's order;
-        if it has these dims."""
+        """Returns the address of an array of a call, an object that keeps its memory, and whether it
+        lies in C order. Raises ShapeMismatch for other dims than these."""
         if type(value) is ARRAY and value.dtype is INT64 and value.shape == dims:
             is_turned = len(dims) > 1 and not value.flags.f_contiguous
             try:
-                # A buffer is taken in numpy's common order, without gaps, if it can be written.
+                # from_buffer takes memory in C order, without gaps, that can be written.
                 place = addressof(from_buffer(value if is_turned or len(dims) < 2 else value.T))
                 if not place % VALUE and (self.as_they_lie or not is_turned):
                     return place, value, is_turned
@@ -211,7 +212,7 @@ class Compiled:
                 packed = bytearray(numbers(len(value)).pack(*value))
                 return addressof(from_buffer(packed)), packed, False
             except struct.error:
-                pass  # A number past the range, which is refused below.
+                pass  # A number outside the range of i64, which is refused below.
         found = tensor(value)
         if found.dims != dims:
             raise ShapeMismatch(f"an array of dims {found.dims} where a placeholder has {dims}")
@@ -222,15 +223,14 @@ class Compiled:
     def _at_length(
         self, library: Library, key: int, places: List[int], kept: List[Any], out: Any
     ) -> Tensor:
-        """An answer of many values, one into an array that is there, or the first one of its
-        kind."""
+        """Returns an answer of many values or in `out`, or the first answer for arrays in these orders."""
         order = None if out is None else bool(checked_out(out).flags.f_contiguous)
         named = key if out is None else (key, order)
         plan = self.plans.get(named)
         if plan is None:
             plan = self.plans[named] = self._planned(library, key, out)
         result = Result(self.expr, out, plan.is_turned)
-        # An answer that goes where an input lies is written beside it first.
+        # If `out` overlaps an input, the answer goes to new memory first.
         inputs = [] if out is None else [it for it in (*kept, *plan.kept) if len(it)]
         memories = [memory_of_out(it) if type(it) is ARRAY else it for it in inputs]
         values = result.place(plan.dims, memories)
@@ -239,7 +239,7 @@ class Compiled:
         return result.tensor(values, plan.dims, plan.truth)
 
     def _planned(self, library: Library, key: int, out: Any) -> Plan:
-        """The plan of arrays that lie in these orders, a binary place of the key for each."""
+        """Returns the plan for arrays in these orders. The key has a bit for each array: 1 for C order."""
         orders = [it == "1" for it in bin(key)[3:]]
         stand_ins = [
             Tensor(memory_for(product(dims)), dims, turned=is_turned)
@@ -254,8 +254,8 @@ class Compiled:
 
 
 class Traced:
-    """A function of expressions as one of arrays: it is called once for each dims that its
-    arguments have, with placeholders of these dims."""
+    """A Python function of expressions, as a function of arrays. The Python function is called once for
+    each combination of dims, with placeholders of these dims."""
 
     def __init__(self, function: Callable[..., Any], settings: Settings) -> None:
         functools.update_wrapper(self, function)
@@ -263,7 +263,7 @@ class Traced:
         self.made: Dict[Any, Compiled] = {}
 
     def __call__(self, *values: Any, out: Any = None, **named: Any) -> Tensor:
-        """The tensor of what the function gives of these arrays."""
+        """Returns the tensor of the function's expression over these arrays."""
         if named:
             values = inspect.signature(self.function).bind(*values, **named).args
         values = tuple(it if type(it) is ARRAY else tensor(it) for it in values)
@@ -274,7 +274,7 @@ class Traced:
         return found(*values, out=out)
 
     def traced(self, shapes: Sequence[Dims]) -> Compiled:
-        """The function's expression over placeholders of these dims.
+        """Compiles the function's expression over placeholders of these dims.
 
         >>> compile(lambda x, y: x + y).traced([(2,), (2,)]).expr
         <add, dims (2,), 3 nodes>

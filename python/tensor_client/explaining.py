@@ -1,4 +1,4 @@
-"""Asks where the fault of a request is, and why it is one, of the program that tells this."""
+"""Asks the program `tensor_explain` where the fault of a request is, and for what reason."""
 
 from __future__ import annotations
 
@@ -11,14 +11,14 @@ from .finding import EXPLAIN, built, environment
 from .requests import Settings, fault_of, request
 
 SECONDS = 10
-# What it says behind the fault: the place, a pointer into the text, and the reason.
+# Its second line: the place of the fault, as a pointer into the text, and the reason.
 SAID = re.compile(r"at (.*?): (.*)")
 
 
 def explain(fault: Fault, expr: Expr, settings: Settings) -> None:
-    """Gives a fault its place and its reason, where it has no reason yet and the program is found.
-    Whatever goes wrong on the way, the fault stays what it is."""
-    # Behind these come want of memory and streams that fail, which no text tells of.
+    """Sets the place and the reason of a fault, if it has no reason yet and the program is found. If
+    that fails, the fault stays as it is."""
+    # Faults with higher numbers, such as a lack of memory, have no reason in the text.
     if not fault.why and fault.number <= TooLarge.number:
         ask(fault, expr, settings)
 

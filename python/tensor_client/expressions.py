@@ -1,5 +1,5 @@
-"""Expressions, by the operations of the request. Tensors, the inputs and answers among them, stand
-in tensors.py; the examples take their names from the package."""
+"""Expressions, by the operations of the request. tensors.py has tensors, which are inputs and answers.
+The examples take their names from the package."""
 
 from __future__ import annotations
 
@@ -12,7 +12,7 @@ from .rules import Dims, alike
 from .values import WRAPPING, as_bits, flag, is_bool, listed, value_of, whole
 
 MANY = 1_000_000_000
-# What gives truth values, always and of two truth values; these are summed by another operation.
+# Operations that give truth values always, or of two truth values. `or` sums two truth values.
 COMPARING = frozenset("lt le eq ne gt ge and or".split())
 OF_TRUTHS = frozenset("add mul cwise_max cwise_min bit_and bit_or bit_xor".split())
 SUMS = {"add": "or"}
@@ -20,7 +20,7 @@ OfOther = Callable[[Any], "Expr"]
 
 
 def pairwise(operation: str, what: str, *example: str) -> Any:
-    """An operation of the request on each two values as a method, with an example."""
+    """Returns an elementwise operation of the request on two operands as a method, with an example."""
 
     def method(self: Expr, other: Any) -> Expr:
         return elementwise(operation, self, other)
@@ -29,21 +29,19 @@ def pairwise(operation: str, what: str, *example: str) -> Any:
 
 
 class Expr(NumpyMethods):
-    """An operation on expressions, which `run` has answered. Each operation of the request is a
-    method by its own name, each that numpy has by numpy's name too.
+    """An expression: an operation on other expressions, which `run` evaluates. Each operation of the
+    request is a method with its own name, and with numpy's name if numpy has it.
 
-    `dims` are those of the result; None where an operation isn't known here. `truth` says that all
-    values are truth values, as those of comparisons are. `leaf` is an input of these dims, if one is
-    known; `ran` says how often the expression was run for its values, without a call of `run`. What
-    operands can't have is a fault at once.
+    `dims` are the dims of the result, or None if they aren't known here. `truth` says that all values
+    are truth values, as the values of comparisons are. `leaf` is an input with these dims, if one is
+    known. `ran` counts how often the expression ran for its values without a call of `run`. An operand
+    that an operation can't take raises a Fault at once.
 
     >>> tensor([[1, 2, 3], [4, 5, 6]]) * 2
     <mul, dims (2, 3), 4 nodes>
     """
 
-    __slots__ = (
-        "operation", "operands", "arguments", "dims", "truth", "depth", "nodes", "leaf", "ran",
-    )
+    __slots__ = "operation", "operands", "arguments", "dims", "truth", "depth", "nodes", "leaf", "ran"
     __hash__ = object.__hash__
 
     def __init__(
@@ -75,7 +73,7 @@ class Expr(NumpyMethods):
         return f"<{self.operation}, {dims}, {nodes}{times}>"
 
     def _answered(self) -> Tensor:
-        """The tensor of the values, which are asked for without a call of `run`."""
+        """Evaluates the expression for a caller that needs its values, and returns its tensor."""
         from .running import run
 
         found = run(self)
@@ -83,7 +81,7 @@ class Expr(NumpyMethods):
         return found
 
     def as_numbers(self) -> Expr:
-        """The same, where values that are 0 and 1 needn't be truth values.
+        """Returns the expression with its values as numbers: truth values become 0 and 1.
 
         >>> (tensor([1, 2]) < 2).as_numbers()
         <lt, dims (2,), 4 nodes>
@@ -92,10 +90,10 @@ class Expr(NumpyMethods):
             return self
         return Expr(self.operation, self.operands, self.arguments, self.dims)
 
-    # One operand, value by value.
+    # Elementwise operations on one operand.
 
     def neg(self) -> Expr:
-        """The negated values: -x.
+        """Returns the negated values: -x.
 
         >>> run(-tensor([1, 2])).values
         [-1, -2]
@@ -103,7 +101,7 @@ class Expr(NumpyMethods):
         return Expr("neg", [self], dims=self.dims)
 
     def abs(self) -> Expr:
-        """The absolute values: abs(x). That of the least number is itself, as numpy's.
+        """Returns the absolute values: abs(x). For the least i64 this is the least i64, as in numpy.
 
         >>> run(abs(tensor([1, -2]))).values
         [1, 2]
@@ -111,7 +109,7 @@ class Expr(NumpyMethods):
         return Expr("abs", [self], dims=self.dims, truth=self.truth)
 
     def square(self) -> Expr:
-        """Each value times itself: x**2.
+        """Returns each value times itself: x**2.
 
         >>> run(tensor([1, -2]).square()).values
         [1, 4]
@@ -119,7 +117,7 @@ class Expr(NumpyMethods):
         return Expr("square", [self], dims=self.dims)
 
     def not_(self) -> Expr:
-        """1 where a value is 0, else 0.
+        """Returns 1 where a value is 0, and 0 elsewhere.
 
         >>> run(tensor([0, 5]).not_()).values
         [1, 0]
@@ -127,71 +125,71 @@ class Expr(NumpyMethods):
         return Expr("not", [self], dims=self.dims, truth=True)
 
     def constant(self, value: int) -> Expr:
-        """This value at every place.
+        """Returns this value at every place.
 
         >>> run(tensor([1, 2]).constant(7)).values
         [7, 7]
         """
         return Expr("constant", [self], [value_of(value)], self.dims, is_bool(value))
 
-    # Two and three operands, value by value, repeated by numpy's rule where dims differ.
+    # Elementwise operations on two and three operands. Dims are broadcast as in numpy.
 
-    add: OfOther = pairwise("add", "The sums: x + y.", "tensor([1, 2]) + 10", "[11, 12]")
-    sub: OfOther = pairwise("sub", "The differences: x - y.", "tensor([1, 2]) - 1", "[0, 1]")
+    add: OfOther = pairwise("add", "Returns the sums: x + y.", "tensor([1, 2]) + 10", "[11, 12]")
+    sub: OfOther = pairwise("sub", "Returns the differences: x - y.", "tensor([1, 2]) - 1", "[0, 1]")
     mul: OfOther = pairwise(
-        "mul", "The products, value by value: x * y.", "tensor([1, 2]) * [3, 4]", "[3, 8]"
+        "mul", "Returns the products: x * y.", "tensor([1, 2]) * [3, 4]", "[3, 8]"
     )
     cwise_max: OfOther = pairwise(
-        "cwise_max", "The greater of each two values, numpy's maximum(x, y).",
+        "cwise_max", "Returns the greater of each two values: numpy's maximum(x, y).",
         "tensor([1, 5]).cwise_max([3, 4])", "[3, 5]",
     )
     cwise_min: OfOther = pairwise(
-        "cwise_min", "The lesser of each two values, numpy's minimum(x, y).",
+        "cwise_min", "Returns the lesser of each two values: numpy's minimum(x, y).",
         "tensor([1, 5]).cwise_min(3)", "[1, 3]",
     )
-    lt: OfOther = pairwise("lt", "1 where x < y, else 0.", "tensor([1, 2]) < 2", "[1, 0]")
-    le: OfOther = pairwise("le", "1 where x <= y, else 0.", "tensor([1, 2, 3]) <= 2", "[1, 1, 0]")
-    eq: OfOther = pairwise("eq", "1 where x == y, else 0.", "tensor([1, 2]) == [1, 3]", "[1, 0]")
-    ne: OfOther = pairwise("ne", "1 where x != y, else 0.", "tensor([1, 2]) != [1, 3]", "[0, 1]")
-    gt: OfOther = pairwise("gt", "1 where x > y, else 0.", "tensor([1, 2]) > 1", "[0, 1]")
-    ge: OfOther = pairwise("ge", "1 where x >= y, else 0.", "tensor([1, 2, 3]) >= 2", "[0, 1, 1]")
+    lt: OfOther = pairwise("lt", "Returns 1 where x < y, else 0.", "tensor([1, 2]) < 2", "[1, 0]")
+    le: OfOther = pairwise("le", "Returns 1 where x <= y, else 0.", "tensor([1, 2, 3]) <= 2", "[1, 1, 0]")
+    eq: OfOther = pairwise("eq", "Returns 1 where x == y, else 0.", "tensor([1, 2]) == [1, 3]", "[1, 0]")
+    ne: OfOther = pairwise("ne", "Returns 1 where x != y, else 0.", "tensor([1, 2]) != [1, 3]", "[0, 1]")
+    gt: OfOther = pairwise("gt", "Returns 1 where x > y, else 0.", "tensor([1, 2]) > 1", "[0, 1]")
+    ge: OfOther = pairwise("ge", "Returns 1 where x >= y, else 0.", "tensor([1, 2, 3]) >= 2", "[0, 1, 1]")
     and_: OfOther = pairwise(
-        "and", "1 where neither value is 0, else 0: numpy's logical_and.",
+        "and", "Returns 1 where neither value is 0, else 0: numpy's logical_and.",
         "tensor([0, 5, 5]).and_([5, 0, 7])", "[0, 0, 1]",
     )
     or_: OfOther = pairwise(
-        "or", "1 where one value is not 0, else 0: numpy's logical_or.",
+        "or", "Returns 1 where some value isn't 0, else 0: numpy's logical_or.",
         "tensor([0, 5, 0]).or_([0, 0, 7])", "[0, 1, 1]",
     )
     floor_divide: OfOther = pairwise(
-        "floor_divide", "The quotients, rounded down: x // y. By 0 they are 0, as numpy's.",
+        "floor_divide", "Returns the quotients, rounded down: x // y. x // 0 is 0, as in numpy.",
         "tensor([7, -7, 7]) // [2, 2, 0]", "[3, -4, 0]",
     )
     remainder: OfOther = pairwise(
-        "remainder", "What those leave, of the sign of y: x % y. By 0 it is 0, as numpy's.",
+        "remainder", "Returns the remainders, with the sign of y: x % y. x % 0 is 0, as in numpy.",
         "tensor([7, -7, 7]) % [2, 2, 0]", "[1, 1, 0]",
     )
     bit_and: OfOther = pairwise(
-        "bit_and", "The bits that both have: x & y.", "tensor([12, -1]) & 10", "[8, 10]"
+        "bit_and", "Returns the bits that both have: x & y.", "tensor([12, -1]) & 10", "[8, 10]"
     )
     bit_or: OfOther = pairwise(
-        "bit_or", "The bits that one has: x | y.", "tensor([12, -1]) | 10", "[14, -1]"
+        "bit_or", "Returns the bits that either has: x | y.", "tensor([12, -1]) | 10", "[14, -1]"
     )
     bit_xor: OfOther = pairwise(
-        "bit_xor", "The bits that one alone has: x ^ y.", "tensor([12, -1]) ^ 10", "[6, -11]"
+        "bit_xor", "Returns the bits that only one has: x ^ y.", "tensor([12, -1]) ^ 10", "[6, -11]"
     )
     shift_left: OfOther = pairwise(
-        "shift_left", "The bits moved up: x << y. 0 by 64 places and more, and below 0, as numpy's.",
+        "shift_left", "Returns x << y. It is 0 for y below 0 or above 63, as in numpy.",
         "tensor([1, 1, 1]).shift_left([3, 63, 64])", "[8, -9223372036854775808, 0]",
     )
     shift_right: OfOther = pairwise(
         "shift_right",
-        "The bits moved down: x >> y. By 64 places and more, and below 0, the sign's, as numpy's.",
+        "Returns x >> y. For y below 0 or above 63 it is 0 or, for negative x, -1, as in numpy.",
         "tensor([9, -9, -9]) >> [1, 1, 64]", "[4, -5, -1]",
     )
 
     def select(self, x: Any, y: Any) -> Expr:
-        """x where this isn't 0, else y: where(this, x, y).
+        """Returns x where this expression isn't 0, and y elsewhere: where(this, x, y).
 
         >>> run(tensor([0, 1]).select(7, [8, 9])).values
         [8, 7]
@@ -200,10 +198,11 @@ class Expr(NumpyMethods):
         truth = operands[1].truth and operands[2].truth
         return Expr("select", operands, dims=operands[0].dims, truth=truth)
 
-    # Movements. The truth of values moves with them.
+    # Movements. Truth values stay truth values.
 
     def broadcast(self, *counts: Any) -> Expr:
-        """Repeated so often along each axis, as numpy's tile.
+        """Repeats the expression this many times along each axis, as numpy's tile. Raises OutOfRange for
+        a count below 1, and ShapeMismatch unless there is a count for each axis.
 
         >>> run(tensor([[1, 2]]).broadcast(2, 2)).nested()
         [[1, 2, 1, 2], [1, 2, 1, 2]]
@@ -213,7 +212,7 @@ class Expr(NumpyMethods):
         return Expr("broadcast", [self], [numbers], dims, self.truth)
 
     def slice(self, offsets: Any, extents: Any) -> Expr:
-        """The part that begins at these offsets and has these dims.
+        """Returns the part that begins at these offsets and has these dims. Raises OutOfRange.
 
         >>> run(tensor([[1, 2, 3], [4, 5, 6]]).slice([0, 1], [2, 2])).nested()
         [[2, 3], [5, 6]]
@@ -223,7 +222,7 @@ class Expr(NumpyMethods):
         return Expr("slice", [self], [begin, sizes], dims, self.truth)
 
     def shuffle(self, *order: Any) -> Expr:
-        """The axes in this order, as numpy's transpose.
+        """Returns the expression with its axes in this order, as numpy's transpose.
 
         >>> run(tensor([[1, 2, 3], [4, 5, 6]]).shuffle(1, 0)).nested()
         [[1, 4], [2, 5], [3, 6]]
@@ -236,8 +235,8 @@ class Expr(NumpyMethods):
         return Expr("shuffle", [self], [numbers], rules.shuffled(self.dims, numbers), self.truth)
 
     def in_dims(self, dims: Sequence[int]) -> Expr:
-        """The same values, place by place, column-major, in other dims: the request's reshape,
-        which is numpy's by order="F".
+        """Returns the values in other dims, in column-major order: the request's reshape, which is
+        numpy's with order="F". Raises ShapeMismatch for another number of places.
 
         >>> run(tensor([[1, 2, 3], [4, 5, 6]]).in_dims([3, 2])).nested()
         [[1, 5], [4, 3], [2, 6]]
@@ -246,7 +245,8 @@ class Expr(NumpyMethods):
         return Expr("reshape", [self], [list(dims)], found, self.truth)
 
     def chip(self, offset: int, axis: int) -> Expr:
-        """The part at this offset of an axis, without the axis, as numpy's take.
+        """Returns the part at this offset of an axis, without the axis, as numpy's take. Raises
+        OutOfRange, also for an offset below 0.
 
         >>> run(tensor([[1, 2, 3], [4, 5, 6]]).chip(2, 1)).values
         [3, 6]
@@ -258,7 +258,7 @@ class Expr(NumpyMethods):
         return Expr("chip", [self], [at, along], rules.chipped(self.dims, at, along), self.truth)
 
     def reverse(self, *flags: Any) -> Expr:
-        """Counted from the other end along each axis whose flag is True, as numpy's flip.
+        """Reverses each axis whose flag is True, as numpy's flip.
 
         >>> run(tensor([1, 2, 3]).reverse(True)).values
         [3, 2, 1]
@@ -269,7 +269,8 @@ class Expr(NumpyMethods):
         return Expr("reverse", [self], [found], self.dims, self.truth)
 
     def stride(self, *steps: Any) -> Expr:
-        """Each so many-th index along each axis, from the first: x[::2, ::3] of numpy.
+        """Returns every n-th place along each axis, from the first on, as x[::2, ::3] of numpy. There is
+        one n for each axis; n below 1 raises OutOfRange.
 
         >>> run(tensor([1, 2, 3]).stride(2)).values
         [1, 3]
@@ -279,7 +280,7 @@ class Expr(NumpyMethods):
         return Expr("stride", [self], [numbers], dims, self.truth)
 
     def zeros_around(self, pairs: Sequence[Sequence[int]]) -> Expr:
-        """So many zeros before and behind along each axis: the request's pad.
+        """Adds zeros, given a pair (before, after) for each axis: the request's pad.
 
         >>> run(tensor([5]).zeros_around([(1, 2)])).values
         [0, 5, 0, 0]
@@ -288,7 +289,7 @@ class Expr(NumpyMethods):
         return Expr("pad", [self], [[list(it) for it in pairs]], dims, self.truth)
 
     def concat(self, other: Any, axis: int) -> Expr:
-        """The other behind this, along an axis.
+        """Returns this expression and the other after it, along an axis.
 
         >>> run(tensor([1, 2]).concat([3], 0)).values
         [1, 2, 3]
@@ -301,10 +302,10 @@ class Expr(NumpyMethods):
         dims = rules.joined(self.dims, right.dims, along)
         return Expr("concat", [self, right], [along], dims, truth)
 
-    # What combines values.
+    # Operations that combine values.
 
     def reduced(self, operation: str, axes: Sequence[int]) -> Expr:
-        """A reduction by the request's name, over axes.
+        """Returns a reduction over axes: sum, prod, maximum, minimum, all or any.
 
         >>> run(tensor([[1, 2], [3, 4]]).reduced("sum", [0])).values
         [4, 6]
@@ -318,8 +319,9 @@ class Expr(NumpyMethods):
         return Expr(operation, [self], [found], rules.without(self.dims, found), truth)
 
     def contract(self, other: Any, pairs: Sequence[Any]) -> Expr:
-        """The sums of products over paired axes, each pair an axis of this and one of the other:
-        x.contract(y, [(1, 0)]) of two matrices, as numpy's tensordot.
+        """Returns the sums of products over paired axes, as numpy's tensordot. Each pair has an axis of
+        this expression and one of the other: x.contract(y, [(1, 0)]) for two matrices. Raises
+        ShapeMismatch if two paired axes aren't equally long.
 
         >>> run(tensor([[1, 2], [3, 4]]).contract([5, 6], [(1, 0)])).values
         [17, 39]
@@ -334,8 +336,8 @@ class Expr(NumpyMethods):
         return of_truths(Expr("contract", [self, right], [pairs], dims))
 
     def convolve(self, kernel: Any, *axes: Any) -> Expr:
-        """The sums of products of a kernel and what lies under it, where its axes lie along these
-        axes: x.convolve(kernel, 0, 1). The kernel isn't turned, as numpy's convolve turns it.
+        """Returns the sums of products of a kernel and the values under it. The axes say where each axis
+        of the kernel lies: x.convolve(kernel, 0, 1). The kernel isn't reversed, unlike numpy's convolve.
 
         >>> run(tensor([1, 2, 3]).convolve([1, 10], 0)).values
         [21, 32]
@@ -349,7 +351,7 @@ class Expr(NumpyMethods):
 
 
 def of_truths(products: Expr) -> Expr:
-    """Sums of products, which are truth values where all operands are, as numpy has it.
+    """Returns sums of products. They are truth values if all operands are, as in numpy.
 
     >>> run(tensor([True, True]).contract([True, True], [(0, 0)])).item()
     True
@@ -358,7 +360,7 @@ def of_truths(products: Expr) -> Expr:
 
 
 def elementwise(operation: str, left: Expr, right: Any) -> Expr:
-    """An operation value by value, over the dims that both fit."""
+    """Returns an elementwise operation, over the dims that fit both operands."""
     if not isinstance(right, Expr):
         right = beside(as_bits(right) if operation in WRAPPING else right, left)
     other: Expr = right
@@ -369,5 +371,5 @@ def elementwise(operation: str, left: Expr, right: Any) -> Expr:
     return Expr(operation, operands, dims=operands[0].dims, truth=truth)
 
 
-# Tensors are expressions, and what stands beside an expression becomes one: each needs the other.
+# Tensors are expressions, and operands of expressions become tensors: each module needs the other.
 from .tensors import Tensor, an_expr, beside  # noqa: E402

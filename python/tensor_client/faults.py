@@ -1,4 +1,4 @@
-"""The faults that the program answers, each a class, and what may go wrong with the program."""
+"""The faults of a request, each as a class, and the exceptions if nothing answers."""
 
 from __future__ import annotations
 
@@ -13,18 +13,18 @@ __all__ = [
 
 
 class ProgramFailed(Exception):
-    """There is no program to ask, or it ended without an answer."""
+    """No program or library is found, or it ended without an answer."""
 
 
 class TimedOut(ProgramFailed):
-    """The program gave no answer within the time that it was given."""
+    """There was no answer within the time that was given."""
 
 
 class Fault(Exception):
-    """What is answered in place of a tensor, by its number and name in docs/REQUEST.md.
+    """The reason why a request has no tensor, by its number and name in docs/REQUEST.md.
 
-    Most are found where an expression is written, before anything is sent, and say why; those are
-    ValueErrors or IndexErrors too, as numpy's are.
+    Faults of dims, axes and arguments are found when an expression is written. They are ValueErrors too,
+    and an offset or an axis past the end is an IndexError, as in numpy. NoMemory is a MemoryError.
 
     >>> str(ShapeMismatch("dims (2,) and (3,) don't fit"))
     "error 12 ShapeMismatch: dims (2,) and (3,) don't fit"
@@ -42,7 +42,7 @@ class Fault(Exception):
         self.why, self.place = why, place
 
     def tell(self, why: str, place: str = "") -> None:
-        """Says why, and where in the text of the request, as a pointer such as /expr/1."""
+        """Sets the reason, and the place in the text of the request, as a pointer such as /expr/1."""
         self.why, self.place = why, place
 
     def __str__(self) -> str:
@@ -50,7 +50,7 @@ class Fault(Exception):
         return f"error {self.number} {self.name}{where}" + (f": {self.why}" if self.why else "")
 
     def __reduce__(self) -> Tuple[Any, ...]:
-        # By number and name: the class of a fault that isn't known here can't be named.
+        # By number and name: a fault that isn't known here has a class that can't be imported.
         return fault_made, (self.number, self.name, self.why, self.place)
 
 
@@ -79,7 +79,7 @@ FAULTS: Dict[int, Type[Fault]] = {it.number: it for it in Fault.__subclasses__()
 
 
 def fault_made(number: int, name: str, why: str = "", place: str = "") -> Fault:
-    """The fault of this number: of its class, where that is known here."""
+    """Returns a fault with this number and name. It is of its own class if that is known here."""
     known = FAULTS.get(number)
     if known is None or known.name != name:
         known = type(name, (Fault,), {"number": number, "name": name, "__module__": __name__})

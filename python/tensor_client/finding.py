@@ -1,5 +1,5 @@
-"""Where the programs and the library are: named by the environment, installed, or in the
-repository. Nothing is built from here; what was never built is taken from the release there."""
+"""Finds the programs and the library: by the environment, installed, or in the repository. It builds
+nothing. If nothing was built in the repository, its release is used."""
 
 from __future__ import annotations
 
@@ -13,42 +13,41 @@ from .faults import ProgramFailed
 
 HERE = os.path.dirname(os.path.realpath(__file__))
 TOP = os.path.normpath(os.path.join(HERE, "..", ".."))
-# Whether this package stands in the repository, which is then at the top.
+# Whether this package is in the repository, whose top is then TOP.
 IS_IN_REPOSITORY = HERE == os.path.join(TOP, "python", "tensor_client")
 
 
 class Program(NamedTuple):
-    """The variable of the environment that names a program, its name on PATH, and its script in the
-    repository."""
+    """A program's environment variable, its name on PATH, and its script in the repository."""
 
     variable: str
     name: str
     script: str
 
     def tried(self) -> str:
-        """Where the program isn't."""
+        """Returns where the program was looked for, for a message."""
         here = f", and there is no {self.script}" if IS_IN_REPOSITORY else ""
         return f"{self.variable} isn't set, PATH has no {self.name}{here}"
 
 
-# The program of one request, those of many, and the one that tells where a fault is.
+# The program of one request, the two of many requests, and the program that explains faults.
 ONE = Program("TENSOR_PROGRAM", "tensor_run", os.path.join(TOP, "run"))
 LINES = Program("TENSOR_LINES", "tensor_lines", os.path.join(TOP, "lines"))
 FRAMES = Program("TENSOR_FRAMES", "tensor_frames", os.path.join(TOP, "frames"))
 EXPLAIN = Program("TENSOR_EXPLAIN", "tensor_explain", os.path.join(TOP, "explain"))
 
 LIBRARY_VARIABLE, LIBRARY = "TENSOR_LIBRARY", "libtensor.so"
-# The library of the repository, and what the release has that lies there.
+# The library in the repository, and the checksums of the release there.
 MADE = os.path.join(TOP, "out", LIBRARY)
 RELEASED = os.path.join(TOP, "release", "SHA256SUMS")
-# The library of processors of the level x86-64-v3, beside this package, and what these have.
+# The library for processors of level x86-64-v3, beside this package, and the flags of that level.
 LIBRARY_V3 = "libtensor-x86-64-v3.so"
 HAVE_V3 = {"avx", "avx2", "bmi1", "bmi2", "f16c", "fma", "abm", "movbe", "xsave"}
 
 
 def installed(program: Program) -> Optional[str]:
-    """The path of a program that the environment names, or that is on PATH. One that is named has
-    to be there."""
+    """Returns the path of a program that the environment names or that is on PATH, or None. Raises
+    ProgramFailed if the environment names one that can't be run."""
     named = os.environ.get(program.variable)
     found = shutil.which(named or program.name)
     if named and not found:
@@ -57,13 +56,13 @@ def installed(program: Program) -> Optional[str]:
 
 
 def found(program: Program) -> Optional[str]:
-    """The path of a program, if there is one: by the environment, on PATH, or in the repository."""
+    """Returns the path of a program by the environment, on PATH or in the repository, or None."""
     is_here = IS_IN_REPOSITORY and os.access(program.script, os.X_OK)
     return installed(program) or (program.script if is_here else None)
 
 
 def program_of(named: Any, program: Program) -> str:
-    """The path of a program that has to be there: as it is named in the call, or as it is found."""
+    """Returns the path of a program, as the call names it or as it is found. Raises ProgramFailed."""
     path = str(os.fspath(named)) if named is not None else found(program)
     if path is None:
         raise ProgramFailed(f"no program: {program.tried()}")
@@ -71,15 +70,15 @@ def program_of(named: Any, program: Program) -> str:
 
 
 def built(program: Program) -> Optional[str]:
-    """The path of a program that needn't be there; the repository's script counts where its program
-    is built, or a release has it."""
+    """Returns the path of a program, or None. The script in the repository counts only if its program is
+    built or a release has it."""
     made = os.path.join(TOP, "crates", program.name, "out", program.name)
     is_there = os.access(made, os.X_OK) or os.path.exists(RELEASED)
     return found(program) if is_there else installed(program)
 
 
 def is_v3() -> bool:
-    """Whether this processor is of the level x86-64-v3, by what the kernel says of the first."""
+    """Whether this processor has the level x86-64-v3, by the flags that the kernel lists for the first."""
     try:
         with open("/proc/cpuinfo", encoding="ascii", errors="replace") as file:
             flags = next((it for it in file if it.startswith("flags")), "")
@@ -89,8 +88,8 @@ def is_v3() -> bool:
 
 
 def libraries() -> Iterator[str]:
-    """Where the library may be: beside this package, in the folder lib/ that this package is
-    installed below, where the loader looks, in the repository."""
+    """Yields where the library may be: beside this package, in the folder lib/ above this package, where
+    the loader looks, and in the repository."""
     if is_v3():
         yield os.path.join(HERE, LIBRARY_V3)
     yield os.path.join(HERE, LIBRARY)
@@ -99,7 +98,7 @@ def libraries() -> Iterator[str]:
         above = os.path.dirname(above)
     if os.path.basename(above):
         yield os.path.join(above, LIBRARY)
-    # Without what is for compilers alone there is the name that programs are linked to.
+    # Without the package for compilers, only the name that programs are linked to is there.
     yield from (LIBRARY, f"{LIBRARY}.1")
     if IS_IN_REPOSITORY:
         put_by_release()
@@ -107,8 +106,8 @@ def libraries() -> Iterator[str]:
 
 
 def put_by_release() -> None:
-    """Has the library of the release put where none is built, or where that of an earlier release
-    lies. Where that fails, no library is there."""
+    """Puts the release's library into out/ if none is there, or one of an earlier release. If that
+    fails, out/ stays as it is."""
     noted = os.path.join(TOP, "out", "libtensor.released")
     if not os.path.exists(RELEASED):
         return
@@ -120,10 +119,10 @@ def put_by_release() -> None:
 
 
 def no_library() -> str:
-    """Where the library isn't."""
+    """Returns where the library was looked for, for a message."""
     return f"{LIBRARY_VARIABLE} isn't set, and none of {', '.join(libraries())} opens"
 
 
 def environment() -> Dict[str, str]:
-    """What a program is run in: it isn't built on the way, since that takes minutes."""
+    """Returns the environment of a program. It says not to build it first, which takes minutes."""
     return {"TENSOR_RUN_BUILD": "no", **os.environ}

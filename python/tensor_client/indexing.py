@@ -1,4 +1,4 @@
-"""What numpy's x[..] names along each axis."""
+"""What an index x[..] names along each axis, as in numpy."""
 
 from __future__ import annotations
 
@@ -9,12 +9,13 @@ from typing import Any, List, Tuple
 from .faults import OutOfRange
 from .values import is_bool
 
-# By another name where `slice` is an operation of expressions.
+# Python's slice, where `slice` is an operation of expressions.
 Slice = slice
 
 
 def parts_of(index: Tuple[Any, ...], rank: int) -> List[Any]:
-    """An index for each axis, and None for each new one; `..` stands for those not named."""
+    """Returns an index for each axis, and None for each new axis. `..` stands for the axes that aren't
+    named. Raises OutOfRange for too many indices."""
     dots = [at for at, it in enumerate(index) if it is Ellipsis]
     if len(dots) > 1:
         raise IndexError("an index may have `..` once")
@@ -29,7 +30,7 @@ def parts_of(index: Tuple[Any, ...], rank: int) -> List[Any]:
 
 
 def is_index(it: Any) -> bool:
-    """Whether this names offsets along one axis, or axes: no truth value, no list."""
+    """Whether this is a number, a slice, None or `..`, and neither a truth value nor a list."""
     if is_bool(it) or getattr(it, "shape", None) or getattr(it, "truth", False):
         return False
     if it is None or it is Ellipsis or isinstance(it, slice):
@@ -38,25 +39,24 @@ def is_index(it: Any) -> bool:
 
 
 def is_list(it: Any) -> bool:
-    """Whether this is a list of offsets or of truth values, or an expression that has to be
-    answered before it is a number."""
+    """Whether this is a list of offsets or of truth values, or an expression that has to run first."""
     if isinstance(it, (list, range, packed)) or getattr(it, "shape", None):
         return True
     return getattr(it, "operands", None) not in (None, ())
 
 
 def whole_range(index: Any, dim: int) -> range:
-    """The offsets along an axis that an index names."""
+    """Returns the offsets along an axis that an index names. Raises OutOfRange."""
     if isinstance(index, slice):
         return range(*index.indices(dim))
     at = operator.index(index)
     if not -dim <= at < dim:
-        raise OutOfRange(f"offset {at} of {dim}")
+        raise OutOfRange(f"offset {at} is out of range for {dim} places")
     return range(at % dim, at % dim + 1)
 
 
 def turned(offsets: range, dim: int) -> range:
-    """Offsets that fall, counted from the axis's other end; others as they are."""
+    """Returns falling offsets as they count from the other end of the axis, and others as they are."""
     if offsets.step > 0:
         return offsets
     start = dim - 1 - offsets.start

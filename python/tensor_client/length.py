@@ -1,4 +1,4 @@
-"""How long requests may be, and what is said of one that is longer."""
+"""Limits on the length of requests, and messages about longer ones."""
 
 from __future__ import annotations
 
@@ -7,16 +7,16 @@ from typing import Optional
 from .expressions import MANY, Expr
 from .faults import TooLarge
 
-# So many nodes an expression may have in versions 1 and 2, and in version 3; so many bytes a text, or
-# a frame's header; and so many values a frame, likewise.
+# The most nodes of an expression in versions 1 and 2, and in version 3; the most bytes of a text or of a
+# frame's header; and the most values of a frame in versions 1 and 2, and in version 3.
 FIRST_NODES, MOST_NODES = 1_000, 10_000
 MAX_TEXT = FIRST_VALUES = 16_777_216
 MAX_VALUES = 4_294_967_296
 
 
 class Unfit(TooLarge):
-    """An expression has more nodes than a request may have, or more operations in one another. It
-    stands here as it was to be asked for."""
+    """An expression has more nodes, or more operations inside one another, than a request may have.
+    `expr` is the expression as the request would ask for it."""
 
     def __init__(self, expr: Expr, most: int) -> None:
         super().__init__(too_many_nodes(expr, most))
@@ -24,7 +24,7 @@ class Unfit(TooLarge):
 
 
 def most_nodes(version: Optional[int]) -> int:
-    """How many nodes a frame may have, of this version or of any.
+    """Returns the most nodes of a frame, in this version or in any.
 
     >>> most_nodes(2), most_nodes(None)
     (1000, 10000)
@@ -37,27 +37,27 @@ def number(count: int) -> str:
 
 
 def too_many_nodes(expr: Expr, most: int) -> str:
-    """What is said of an expression that one request can't have.
+    """Returns the message for an expression that is too large for one request.
 
     >>> print(too_many_nodes(-tensor(1), 1))
-    nodes: 2, operations in one another: 2, and one request has 1 and some 120: `run` takes such an \
-expression in parts; or run a part, and go on with its tensor
+    nodes: 2, operations inside one another: 2, of at most 1 and some 120 in one request: `run` \
+evaluates such an expression in parts; or run a part, and use its tensor
     """
     return (
-        f"nodes: {number(expr.nodes)}, operations in one another: {number(expr.depth)}, and one "
-        f"request has {most:,} and some 120: `run` takes such an expression in parts; or run a part, "
-        "and go on with its tensor"
+        f"nodes: {number(expr.nodes)}, operations inside one another: {number(expr.depth)}, of at "
+        f"most {most:,} and some 120 in one request: `run` evaluates such an expression in parts; or "
+        "run a part, and use its tensor"
     )
 
 
 def too_many_values(count: int, most: int) -> str:
-    """What is said of inputs that have too many values."""
-    return f"{number(count)} values in all, and there may be {most:,}: run a part at a time"
+    """Returns the message for inputs with too many values."""
+    return f"{number(count)} values in all, of at most {most:,}: run a part at a time"
 
 
 def too_long_text(length: int, values: int) -> str:
-    """What is said of a text that is too long, with so many values in it."""
+    """Returns the message for a text that is too long, with this number of values in it."""
     return (
-        f"a text of {number(length)} bytes, and there may be {MAX_TEXT:,}, with {number(values)} "
+        f"a text of {number(length)} bytes, of at most {MAX_TEXT:,}, with {number(values)} "
         "values in it: the library and frames take values as they lie; or run a part at a time"
     )

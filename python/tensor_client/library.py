@@ -1,6 +1,5 @@
-"""Has expressions answered in this process, by the library: on the thread that calls, or in parts,
-by the threads of a pool that the library keeps. Arrays are handed over where they lie, and answers written where they are
-wanted."""
+"""Evaluates expressions by the library in this process: on the calling thread, or in parts by threads of
+a pool. The library reads arrays where they lie, and writes answers where they are wanted."""
 
 from __future__ import annotations
 
@@ -21,27 +20,27 @@ from .rules import MOST_ELEMENTS, Dims, product
 from .tensors import Tensor
 from .threads import FEWEST, parts_worth
 
-# As include/tensor.h has them.
+# Constants of include/tensor.h.
 NO_ROOM, DIMS_ROOM, NAME_ROOM, MOST_PARTS = -100, 9, 16, 256
-# How much room there is for a plan: enough for some hundred nodes, and else more.
+# Sizes for a plan, tried in turn: the first is enough for some hundred nodes.
 PLAN_ROOMS = 1 << 14, 1 << 18, 1 << 24
 POINTER, SIZE, NUMBER = ctypes.c_void_p, ctypes.c_size_t, ctypes.c_uint64
 DIMS, NAME = NUMBER * DIMS_ROOM, ctypes.c_uint8 * NAME_ROOM
-# A function that is handed a pool and arrays, and what stands between these: a header, or a plan.
+# A function that takes a pool and arrays, and what it takes between them: a header, or a plan.
 Asked = Tuple[Any, Any]
-# The pools of this process, by the path of their library: a child that was forked opens its own.
+# The pools of this process, by the path of their library. A forked child opens pools of its own.
 POOLS: Dict[str, Optional[int]] = {}
 os.register_at_fork(after_in_child=POOLS.clear)
 
 
 def arrays_of(parts: List[Bytes]) -> Any:
-    """Where the values of each array lie and how many there are, one array behind another."""
+    """Returns the address of each array and its number of values, array by array."""
     pairs = [(place_of(it), memoryview(it).nbytes // VALUE) for it in parts]
     return (NUMBER * (2 * len(pairs)))(*[it for pair in pairs for it in pair])
 
 
 class Library:
-    """The library, opened, with the functions of it that are called."""
+    """The library, opened, and its functions. Raises ProgramFailed if it can't be opened."""
 
     def __init__(self, path: str, by: str = "") -> None:
         self.path = path
@@ -76,7 +75,7 @@ class Library:
         self.pool_open.restype, self.pool_close.restype = POINTER, None
 
     def run(self, expr: Expr, settings: Settings, out: Any = None) -> Tensor:
-        """The tensor of an expression's values, or its fault."""
+        """Returns the tensor of an expression, or raises its fault."""
         few = LARGE if out is not None or expr.dims is None else product(expr.dims)
         asked = framed(expr, settings) if few < LARGE else None
         if asked is not None and asked.size < LARGE:
@@ -91,7 +90,7 @@ class Library:
         wanted = result.asked(expr)
         is_framed = asked is not None and wanted is expr
         if not is_framed and (expr.depth > DEEPEST or expr.nodes > FIRST_NODES):
-            # One request may not have what is long, which is to be known before parts of it are run.
+            # Raises Unfit for an expression that is too long, before any part of it runs.
             asked, is_framed = framed(wanted, settings), True
         with_parts = self.with_parts(wanted, settings) if settings.workers > 1 else wanted
         if asked is None or not is_framed or with_parts is not wanted:
@@ -99,11 +98,10 @@ class Library:
         return self.written(asked, with_parts, settings, result)
 
     def written(self, asked: Framed, expr: Expr, settings: Settings, result: Result) -> Tensor:
-        """The tensor of an expression that is asked for by this frame, where it is wanted."""
+        """Returns the tensor of an expression that this frame asks for, in the place of the result."""
         parts = [as_memory(it) for it in asked.held]
         arrays, dims = arrays_of(parts), expr.dims
-        # Where they are known, and of many values, a fault is told by the call that is to write
-        # these.
+        # If dims of many values are known, the call that writes the values reports a fault.
         if dims is None or not LARGE <= product(dims) <= MOST_ELEMENTS:
             dims = self.dims_over(asked.header, arrays, len(parts))
         values = result.place(dims, asked.held)
@@ -116,8 +114,8 @@ class Library:
         return result.tensor(values, dims, expr.truth)
 
     def reduced(self, expr: Expr, memory: memoryview, settings: Settings) -> Tensor:
-        """The tensor of a reduction of this memory to one value: columns of it are reduced, one for
-        each worker, and then what they have and the values behind them."""
+        """Returns the tensor of a reduction of this memory to one value. It reduces columns of the
+        memory, one for each worker, and then their results and the values after the last column."""
         count, alone = min(settings.workers, MOST_PARTS), settings._replace(workers=1)
         length = len(memory) // count
         room = memory_of(bytes(VALUE * count) + memory[length * count :].tobytes())
@@ -133,8 +131,8 @@ class Library:
         return Tensor(found.tolist(), (), expr.truth)
 
     def with_parts(self, expr: Expr, settings: Settings) -> Expr:
-        """An expression with the tensors of those parts that a request would bind, where some have
-        many values: each thread would work them out anew, and here all do together."""
+        """Returns an expression in which tensors replace the parts that a request would bind, if some
+        have many values. Each thread would evaluate such a part; here all evaluate it together."""
         bound = bindings_of(expr).bound
         if not any(product(it.dims or ()) >= FEWEST for it in (*bound, expr)):
             return expr
@@ -144,14 +142,12 @@ class Library:
         return with_others(expr, found) if bound else expr
 
     def answered_at_once(self, asked: Framed, room: int) -> Optional[Tensor]:
-        """The tensor of a frame of few values, if it has no more values than there is room for."""
+        """Returns the tensor of a frame of few values, or None if it has more values than `room`."""
         header, values, dims = asked.header, joined(asked.held), DIMS()
-        # An array of ctypes, which a slice makes a list of.
+        # An array of ctypes, a slice of which is a list.
         out: Any = (ctypes.c_int64 * room)()
         place = values if isinstance(values, bytes) else place_of(values)
-        count = self.evaluate(
-            header, len(header), place, asked.size, out, room, dims, DIMS_ROOM
-        )
+        count = self.evaluate(header, len(header), place, asked.size, out, room, dims, DIMS_ROOM)
         if count == NO_ROOM:
             return None
         if count < 0:
@@ -159,20 +155,20 @@ class Library:
         return Tensor(out[:count], dims[1 : 1 + dims[0]])
 
     def dims_over(self, header: bytes, arrays: Any, many: int) -> Dims:
-        """The dims of the tensor of a header and so many arrays; none of its values is worked out,
-        and no memory is taken for the arrays'."""
+        """Returns the dims of the tensor of a header and this many arrays. It computes no values, and
+        takes no memory for the arrays' values."""
         dims = DIMS()
         size = self.dims_of_arrays(header, len(header), arrays, many, dims, DIMS_ROOM)
         return self.told(size, dims)
 
     def told(self, size: int, dims: Any) -> Dims:
-        """The dims that a call has written, unless it returned a fault."""
+        """Returns the dims that a call has written, or raises the fault that it returned."""
         if size < 0:
             raise self.fault(-size)
         return tuple(dims[1 : 1 + dims[0]])
 
     def shared(self, asked: Framed, arrays: Any) -> int:
-        """How many values each part of the answer works out anew of these arrays of a frame."""
+        """Returns how many values each part of a frame's answer would compute again, over these arrays."""
         header, many = asked.header, len(asked.held)
         count: int = self.shared_by_parts(header, len(header), arrays, many)
         if count < 0:
@@ -180,7 +176,7 @@ class Library:
         return count
 
     def prepared(self, asked: Framed) -> Any:
-        """The plan of a frame: what its header asks for, as an array of numbers."""
+        """Returns the plan of a frame: what its header asks for, as an array of numbers."""
         header = asked.header
         for size in PLAN_ROOMS:
             room = (NUMBER * size)()
@@ -192,7 +188,7 @@ class Library:
         return (NUMBER * length).from_buffer_copy(room)
 
     def fill(self, asked: Asked, arrays: Any, many: int, out: memoryview, parts: int) -> None:
-        """Writes the values that are asked for of so many arrays, in this number of parts."""
+        """Writes the values that are asked for of this many arrays, in this number of parts."""
         function, text = asked
         pool, place = self.pool() if parts > 1 else None, place_of(out)
         count = function(pool, text, len(text), arrays, many, 0, place, len(out), parts)
@@ -200,7 +196,7 @@ class Library:
             raise self.failed(count)
 
     def pool(self) -> Optional[int]:
-        """The threads of the library, which are started when they are first needed, and stay."""
+        """Returns the pool of the library's threads, which is opened once and stays open."""
         found = POOLS.get(self.path)
         if found is None:
             opened = self.pool_open(os.cpu_count() or 1)
@@ -210,7 +206,7 @@ class Library:
         return found
 
     def failed(self, count: int) -> Exception:
-        """What is raised where a function returns something else than how many values it wrote."""
+        """Returns the exception for a function that didn't return how many values it wrote."""
         if NO_ROOM < count < 0:
             return self.fault(-count)
         return ProgramFailed(f"{self.path} returned {count}")
@@ -222,8 +218,8 @@ class Library:
 
 
 def reduced_memory(expr: Expr, settings: Settings) -> Optional[memoryview]:
-    """The memory of an input that an expression reduces to one value, if several workers are worth
-    it. Version 3 has tensors of any dims; where another is asked for, the whole is a request."""
+    """Returns the memory of an input that an expression reduces to one value, or None if one request is
+    better: for one worker, few values, or a version before 3, which limits dims."""
     if expr.operation not in REDUCTIONS or expr.dims != () or settings.version not in (None, 3):
         return None
     own = getattr(expr.operands[0], "own", None)
@@ -235,7 +231,7 @@ OPENED: Dict[str, Library] = {}
 
 
 def library_named(named: Any) -> Library:
-    """The library that is asked for by its way, which has to be there."""
+    """Returns the library for way="library". Raises ProgramFailed if there is none."""
     found = library_of(named)
     if found is None:
         raise ProgramFailed(f"no library: {finding.no_library()}")
@@ -243,8 +239,8 @@ def library_named(named: Any) -> Library:
 
 
 def library_of(named: Any = None) -> Optional[Library]:
-    """The library: as it is named in the call or by the environment, else where one is found. One
-    that is named and can't be opened is a ProgramFailed."""
+    """Returns the library that the call or the environment names, or else the first that is found, if
+    any. Raises ProgramFailed if the named library can't be opened."""
     path = os.environ.get(finding.LIBRARY_VARIABLE, "") if named is None else str(os.fspath(named))
     found = OPENED.get(path)
     if found is None and path:
@@ -257,7 +253,7 @@ def library_of(named: Any = None) -> Optional[Library]:
 
 
 def first_library() -> Optional[Library]:
-    """The first that is found and has the library's functions."""
+    """Returns the first library that is found and has all functions, or None."""
     for path in finding.libraries():
         try:
             return Library(path)

@@ -1,7 +1,6 @@
-"""Values as they lie in memory: 8 bytes each, column-major, as frames and the library have them.
+"""Values as they lie in memory, 8 bytes each, as frames and the library take them.
 
-Such a memory is a memoryview, of an array of numpy or of bytes; a few values stand in lists, which
-cost less.
+Memory is a memoryview of an array of numpy or of bytes. A few values are a list, which costs less.
 """
 
 from __future__ import annotations
@@ -16,8 +15,8 @@ from .values import GREATEST, LEAST, numpy, whole
 
 VALUE = 8
 INT64 = None if numpy is None else numpy.dtype(numpy.int64)
-# Up to so many values are answered as a list, which costs less than memory of its own; and from so
-# many on, new memory is numpy's, where there is numpy, which doesn't clear it.
+# An answer of at most FEW values is a list, which costs less than new memory. From LARGE values on, new
+# memory is numpy's, if numpy is installed, which doesn't clear it.
 FEW, LARGE = 16, 4096
 
 Held = Union[List[int], memoryview]
@@ -25,14 +24,14 @@ Bytes = Union[bytes, memoryview]
 
 
 def memory_for(count: int) -> memoryview:
-    """New memory for so many values."""
+    """Returns new memory for this many values."""
     if numpy is not None and count >= LARGE:
         return numpy.empty(count, dtype=numpy.int64).data
     return memoryview(bytearray(VALUE * count)).cast("q")
 
 
 def memory_of(values: Bytes) -> memoryview:
-    """New memory with these bytes of values.
+    """Returns new memory with these bytes of values.
 
     >>> memory_of(bytes([5, 0, 0, 0, 0, 0, 0, 0])).tolist()
     [5]
@@ -41,7 +40,7 @@ def memory_of(values: Bytes) -> memoryview:
 
 
 def few_of(values: bytes) -> List[int]:
-    """A list of these bytes of values.
+    """Returns these bytes of values as a list.
 
     >>> few_of(bytes([5, 0, 0, 0, 0, 0, 0, 0]))
     [5]
@@ -50,9 +49,9 @@ def few_of(values: bytes) -> List[int]:
 
 
 def memory_of_array(array: Any) -> Tuple[memoryview, bool]:
-    """The memory of an array, and whether its values stand there in numpy's common order, the last
-    axis fastest: its own where they stand in either order, 8 bytes each, without gaps, and else
-    that of a copy, column-major."""
+    """Returns the memory of an array, and whether its values lie there in C order, the last axis
+    fastest. It is the array's own if it has int64 in C or Fortran order without gaps. Otherwise it is a
+    copy in column-major order."""
     flags = array.flags
     lies = array.dtype == INT64 and flags.aligned
     if lies and flags.c_contiguous and not flags.f_contiguous:
@@ -63,13 +62,13 @@ def memory_of_array(array: Any) -> Tuple[memoryview, bool]:
 
 
 def columns_of(memory: memoryview, dims: Sequence[int]) -> memoryview:
-    """New memory with values column-major that stand in numpy's common order."""
+    """Returns new memory with values in column-major order, given values in C order."""
     found: memoryview = numpy.asarray(memory).reshape(dims).reshape(-1, order="F").data
     return found
 
 
 def memory_of_range(values: range) -> memoryview:
-    """New memory with the values of a range, which have to be of the i64 range.
+    """Returns new memory with the values of a range. Raises OverflowError outside the range of i64.
 
     >>> memory_of_range(range(3)).tolist()
     [0, 1, 2]
@@ -82,25 +81,25 @@ def memory_of_range(values: range) -> memoryview:
 
 
 def bytes_of(held: Held) -> bytes:
-    """The bytes of values, copied."""
+    """Returns the bytes of values, copied."""
     return packed_bytes(held) if isinstance(held, list) else held.tobytes()
 
 
 def as_memory(held: Held) -> Bytes:
-    """The memory of values: where they lie, but for those in a list."""
+    """Returns the memory of values. A list of values is copied."""
     return packed_bytes(held) if isinstance(held, list) else held
 
 
 def parts_of(held: List[Held], size: int) -> List[Bytes]:
-    """The memory of all values, of which there are so many, one part behind another: where they
-    lie, but for those in lists, and for those of several tensors that aren't many."""
+    """Returns the memory of all values, `size` in number, part by part. It is copied for lists, and for
+    several tensors with few values together."""
     parts = [as_memory(it) for it in held]
     return [b"".join(parts)] if size < LARGE and len(parts) > 1 else parts
 
 
 @lru_cache(maxsize=100)
 def numbers(count: int) -> struct.Struct:
-    """So many values as bytes."""
+    """Returns the format of this many values as bytes."""
     return struct.Struct(f"<{count}q")
 
 
@@ -109,14 +108,14 @@ def packed_bytes(values: List[int]) -> bytes:
 
 
 def joined(held: List[Held]) -> Bytes:
-    """The memory of all values, one tensor's behind another's."""
+    """Returns the memory of all values, tensor by tensor."""
     parts = [as_memory(it) for it in held]
     return parts[0] if len(parts) == 1 else b"".join(parts)
 
 
 def place_of(memory: Bytes) -> int:
-    """Where a memory begins, which has to be kept as long as that is used. A pointer to nothing may
-    not be null."""
+    """Returns the address of memory, which has to be kept as long as the address is used. The address is
+    never null, even for empty memory."""
     if isinstance(memory, memoryview) and memory:
         if memory.readonly:
             place: int = numpy.asarray(memory).__array_interface__["data"][0]
@@ -127,6 +126,6 @@ def place_of(memory: Bytes) -> int:
 
 
 def overlap(one: memoryview, other: Bytes) -> bool:
-    """Whether two memories have a place in common."""
+    """Whether two memories have a byte in common."""
     ours, theirs, size = place_of(one), place_of(other), memoryview(other).nbytes
     return ours < theirs + size and theirs < ours + one.nbytes

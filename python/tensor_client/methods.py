@@ -1,4 +1,4 @@
-"""numpy's methods of arrays, on expressions: reductions, and what is a function as well."""
+"""numpy's methods of arrays, on expressions: reductions, and methods that are functions as well."""
 
 from __future__ import annotations
 
@@ -8,7 +8,7 @@ from . import rules
 from .values import listed, numbers_of, numpy, whole
 from .ways import NumpyWays
 
-# The functions are made of expressions, and give their name here once they are there.
+# The functions need expressions. So the package sets this name when it has loaded both.
 if TYPE_CHECKING:
     from . import functions
     from .expressions import Expr
@@ -16,19 +16,19 @@ if TYPE_CHECKING:
 
 Axis = Union[None, int, Sequence[int]]
 CUMULATIVE = "cumsum", "cumprod"
-# What is combined beside values changes nothing.
+# By reduction, the value that changes no result.
 IDENTITIES = {"sum": 0, "prod": 1, "maximum": -(2**63), "minimum": 2**63 - 1, "all": 1, "any": 0}
 COMBINED = {"sum": "add", "prod": "mul", "maximum": "cwise_max", "minimum": "cwise_min"}
 
 
 def written_nowhere(out: Any) -> None:
-    """Refuses a place for values that aren't there yet."""
+    """Raises TypeError for `out`: an expression has no values yet to be written."""
     if out is not None:
-        raise TypeError("an expression is written nowhere: run(it, out=..)")
+        raise TypeError("an expression can't be written into `out`: use run(x, out=..)")
 
 
 class Reducing(Protocol):
-    """A reduction, whose axes are named by position or by `axis`."""
+    """A reduction. Its axes are given by position or by `axis`."""
 
     def __call__(
         self, *named: Any, axis: Axis = None, keepdims: bool = False, dtype: Any = None,
@@ -37,7 +37,7 @@ class Reducing(Protocol):
 
 
 def reducing(operation: str, what: str, wanted: str) -> Any:
-    """A reduction as a method, with an example."""
+    """Returns a reduction as a method, with an example."""
 
     def method(
         self: Any, *axes: Any, axis: Axis = None, keepdims: bool = False, **more: Any
@@ -46,7 +46,11 @@ def reducing(operation: str, what: str, wanted: str) -> Any:
         return found
 
     method.__name__ = method.__qualname__ = operation
-    method.__doc__ = f"""{what}, over these axes or over all: x.sum(0), x.sum(0, 1), x.sum(axis=(0, 1)).
+    method.__doc__ = f"""{what}, along these axes or along all: numpy's {operation.replace("imum", "")}.
+
+    The method takes axes as x.{operation}(0, 1) or x.{operation}(axis=(0, 1)). With `keepdims` they keep length 1.
+    `initial` is combined with the values. Values where `where` is 0 don't count. `dtype` is int or
+    bool. Raises OutOfRange for an axis that isn't there.
 
     >>> run(tensor([[3, 1], [7, 4]]).{operation}(axis=0)).values
     {wanted}
@@ -55,13 +59,13 @@ def reducing(operation: str, what: str, wanted: str) -> Any:
 
 
 class NumpyMethods(NumpyWays):
-    """What an expression has as numpy's arrays have it. Expr has the request's own operations."""
+    """Attributes and methods of numpy's arrays. Expr has the request's own operations."""
 
     __slots__ = ()
 
     @property
     def dtype(self) -> Any:
-        """The dtype of the values: int64, or bool of truth values.
+        """The dtype of the values: int64, or bool for truth values. Without numpy it is the name.
 
         >>> tensor([1, 2]).dtype == "int64", (tensor([1, 2]) < 2).dtype == "bool"
         (True, True)
@@ -69,8 +73,7 @@ class NumpyMethods(NumpyWays):
         name = "bool" if self.truth else "int64"
         return name if numpy is None else numpy.dtype(name)
 
-    # Reductions, over all axes where none are named. `initial` is combined with the values, of
-    # which only those count where `where` isn't 0.
+    # Reductions.
 
     if TYPE_CHECKING:
         sum: Reducing
@@ -82,12 +85,12 @@ class NumpyMethods(NumpyWays):
         all: Reducing
         any: Reducing
     else:
-        sum = reducing("sum", "The sums", "[10, 5]")
-        prod = reducing("prod", "The products", "[21, 4]")
-        maximum = max = reducing("maximum", "The greatest values; of nothing the least number", "[7, 4]")
-        minimum = min = reducing("minimum", "The least values; of nothing the greatest number", "[3, 1]")
-        all = reducing("all", "Whether no value is 0", "[1, 1]")
-        any = reducing("any", "Whether a value isn't 0", "[1, 1]")
+        sum = reducing("sum", "Returns the sums", "[10, 5]")
+        prod = reducing("prod", "Returns the products", "[21, 4]")
+        maximum = max = reducing("maximum", "Returns the greatest values (of none, the least i64)", "[7, 4]")
+        minimum = min = reducing("minimum", "Returns the least values (of none, the greatest i64)", "[3, 1]")
+        all = reducing("all", "Returns whether no value is 0", "[1, 1]")
+        any = reducing("any", "Returns whether some value isn't 0", "[1, 1]")
 
     def _combined(
         self, operation: str, axes: Sequence[Any], axis: Axis, keepdims: bool, /, dtype: Any = None,
@@ -110,7 +113,7 @@ class NumpyMethods(NumpyWays):
         return as_dtype(found, dtype)
 
     def _reduced(self, operation: str, axes: Sequence[Any], axis: Axis) -> Expr:
-        """A reduction over axes that are named by position, by name, or not at all."""
+        """Returns a reduction over axes that are given by position, by `axis`, or not at all."""
         if axes and axis is not None:
             raise TypeError(f"the axes of {operation} are named twice")
         if axis is not None:
@@ -125,7 +128,7 @@ class NumpyMethods(NumpyWays):
     # The request's own operations along one axis.
 
     def along(self, operation: str, axis: int) -> Expr:
-        """cumsum, cumprod, argmax or argmin along an axis; the last two are 0 of nothing.
+        """Returns cumsum, cumprod, argmax or argmin along an axis. The last two are 0 for an empty axis.
 
         >>> run(tensor([[1, 2], [3, 4]]).along("cumsum", 1)).nested()
         [[1, 3], [3, 7]]
@@ -140,8 +143,7 @@ class NumpyMethods(NumpyWays):
         return Expr(operation, [self], [at], dims)  # type: ignore[list-item]
 
     def taken(self, indices: Any, axis: int) -> Expr:
-        """What stands at these offsets of an axis: the request's take, which gives 0 where the axis
-        has no such offset, and counts none from behind.
+        """Returns the request's take along an axis. An offset below 0 or past the end gives 0.
 
         >>> run(tensor([5, 6, 7]).taken([2, 0, 3, -1], 0)).values
         [7, 5, 0, 0]
@@ -156,10 +158,10 @@ class NumpyMethods(NumpyWays):
         at = rules.axis_of(at, len(dims))
         return Expr("take", operands, [at], rules.taken(dims, named.dims, at), self.truth)
 
-    # What is a function as well, of the same name.
+    # Methods that are functions as well, with equal names.
 
     def clip(self, min: Any = None, max: Any = None, out: None = None) -> Expr:
-        """The values, none of them below the one and above the other.
+        """Returns the values, limited to the range from `min` to `max`. Either may be left out.
 
         >>> run(tensor([1, 5, 9]).clip(2, 8)).values, run(tensor([1, 5, 9]).clip(max=6)).values
         ([2, 5, 8], [1, 5, 6])
@@ -179,7 +181,7 @@ class NumpyMethods(NumpyWays):
         return functions.pad(self, widths, mode, **more)
 
     def astype(self, dtype: Any, **more: Any) -> Any:
-        """As the function `astype`: of other dtypes than int64 and bool it is an array of numpy."""
+        """As the function `astype`. Dtypes other than int64 and bool give an array of numpy."""
         return functions.astype(self, dtype)
 
     def copy(self, order: str = "C") -> Expr:
@@ -191,7 +193,7 @@ class NumpyMethods(NumpyWays):
         return functions.round(self, decimals)
 
     def conj(self) -> Expr:
-        """As the function `conj`: the values as they are."""
+        """As the function `conj`: returns the values as they are."""
         return functions.conj(self)
 
     conjugate = conj
@@ -214,7 +216,7 @@ class NumpyMethods(NumpyWays):
         return functions.take(self, indices, axis, None, mode)
 
     def compress(self, condition: Any, axis: Any = None) -> Expr:
-        """As the function `compress`, which has the condition first."""
+        """As the function `compress`, which takes the condition first."""
         return functions.compress(condition, self, axis)
 
     def diagonal(self, offset: int = 0, axis1: int = 0, axis2: int = 1) -> Expr:

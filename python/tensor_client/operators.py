@@ -1,4 +1,4 @@
-"""Python's operators on expressions, as numpy's arrays have them."""
+"""Python's operators on expressions, as on numpy's arrays."""
 
 from __future__ import annotations
 
@@ -12,14 +12,14 @@ if TYPE_CHECKING:
 
 
 def told(function: Callable[..., Any], name: str, what: str, example: str, wanted: str) -> Any:
-    """A function with a name, and a docstring with an example."""
+    """Gives a function a name, and a docstring with an example."""
     function.__name__ = function.__qualname__ = name
     function.__doc__ = f"{what}\n\n    >>> run({example}).values\n    {wanted}\n    "
     return function
 
 
 class Pairwise(Protocol):
-    """An operator with what stands behind it. With fractions it is numpy's, and gives its array."""
+    """An operator with its right operand. With fractions it is numpy's, and returns an array."""
 
     @overload
     def __call__(self, other: int) -> Expr: ...
@@ -32,7 +32,7 @@ class Pairwise(Protocol):
 
 
 def between(method: str, name: str) -> Any:
-    """An operator by a method of expressions, or by numpy's function of this name."""
+    """Returns an operator, by a method of expressions or by numpy's function of this name."""
 
     def operator(self: Any, other: Any) -> Any:
         try:
@@ -44,7 +44,7 @@ def between(method: str, name: str) -> Any:
 
 
 def behind(method: str, name: str) -> Any:
-    """The same where the expression stands behind the other."""
+    """Returns the operator of an expression on the right."""
 
     def operator(self: Any, other: Any) -> Any:
         try:
@@ -57,7 +57,7 @@ def behind(method: str, name: str) -> Any:
 
 
 class Operators:
-    """What an expression does beside an operator. Expr has the operations of a text."""
+    """The operators of expressions. Expr has the operations of a text."""
 
     __slots__ = ()
 
@@ -120,14 +120,14 @@ class Operators:
         return matmul(other, self)
 
     def __pow__(self, exponent: Any, modulo: None = None) -> Any:
-        """Powers by a whole number from 0 up, by squares; by several numbers, and by a fraction, they
-        are numpy's, and both are run.
+        """Returns the power by a whole number from 0 on, by squares. Several exponents or a fraction are
+        numpy's, and both operands run. Raises ValueError for a negative exponent.
 
         >>> run(tensor([2, 3]) ** 5).values
         [32, 243]
         """
         if modulo is not None:
-            raise TypeError("the runtime has no powers of a modulus")
+            raise TypeError("powers with a modulus aren't supported")
         if is_several(exponent) or isinstance(exponent, float):
             return self._by_numpy("power", self, exponent)
         number = whole(exponent)
@@ -142,7 +142,7 @@ class Operators:
         power: Expr = found
         return power
 
-    # Bit by bit; where all values are 0 and 1 by operations that a text has too.
+    # Bitwise operators. For truth values they are operations that texts have too.
 
     def __invert__(self) -> Expr:
         return self.not_() if self.truth else self.bit_not()
@@ -159,7 +159,7 @@ class Operators:
     __rand__, __ror__, __rxor__ = __and__, __or__, __xor__
 
     def __lshift__(self, count: Any) -> Expr:
-        """The product with a power of 2, by so many binary places; by 64 and more, and below 0, 0.
+        """Returns the values shifted left, elementwise. For a count below 0 or above 63 they are 0.
 
         >>> run(tensor([1, -2]) << 3).values
         [8, -16]
@@ -170,7 +170,7 @@ class Operators:
         return self.mul((2**places + 2**63) % 2**64 - 2**63 if 0 <= places < 64 else 0)
 
     def _are_truths(self, other: Any) -> bool:
-        """Whether both are known to be 0 and 1, where bit by bit and as a whole are the same."""
+        """Whether both are known to be truth values. Bitwise and logical operations agree for these."""
         from .tensors import an_expr
 
         theirs = is_bool(other) or (not isinstance(other, int) and an_expr(as_bits(other)).truth)
@@ -182,7 +182,7 @@ class Operators:
     def __rdivmod__(self, other: Any) -> Tuple[Any, Any]:
         return other // self, other % self
 
-    # What is a fraction, or takes powers by values, is numpy's, of what is run for it.
+    # numpy computes fractions, and powers by several exponents. The operands run.
 
     def __truediv__(self, other: Any) -> Any:
         return self._by_numpy("true_divide", self, other)
@@ -198,10 +198,10 @@ class Operators:
 
         return by_numpy(name, *operands)
 
-    # The operations behind some of these, which frames and the library alone have.
+    # An operation that only frames and the library have.
 
     def bit_not(self) -> Expr:
-        """Each bit turned: ~x, which is -x - 1.
+        """Returns the values with each bit inverted: ~x, which is -x - 1.
 
         >>> run(~tensor([0, 5])).values
         [-1, -6]

@@ -1,5 +1,5 @@
-"""What answers: a process of one request, a process that stays open, or a connection to a service.
-The last two are asked one request after another."""
+"""What answers requests: a process for one request, a process that stays open, or a connection to a
+service. The last two answer one request after another."""
 
 from __future__ import annotations
 
@@ -14,19 +14,15 @@ from .finding import environment
 from .requests import fault_of
 from .streams import Deadline, Stream
 
-# So many seconds who finds a Unix socket's queue full waits before he tries again.
+# The seconds before another try to connect, if the queue of a Unix socket is full.
 PAUSE = 0.01
 
 
 def answered_once(path: str, text: str, seconds: Optional[float]) -> str:
-    """The line that a program of one request answers."""
+    """Returns the line that a program of one request answers. Raises ProgramFailed and TimedOut."""
     try:
         ended = subprocess.run(
-            [path],
-            input=text.encode(),
-            capture_output=True,
-            env=environment(),
-            check=False,
+            [path], input=text.encode(), capture_output=True, env=environment(), check=False,
             timeout=seconds,
         )
     except OSError as fault:
@@ -34,7 +30,7 @@ def answered_once(path: str, text: str, seconds: Optional[float]) -> str:
     except subprocess.TimeoutExpired as fault:
         raise TimedOut(f"{path}: no answer in {seconds} seconds") from fault
     line, complaint = ended.stdout.decode(), ended.stderr.decode(errors="replace").strip()
-    # A line of ./run on the release may stand before it.
+    # ./run may write a line about the release before it.
     stream = fault_of(complaint.rpartition("\n")[2])
     if stream:
         raise stream
@@ -49,12 +45,8 @@ class Process(Stream):
     def __init__(self, path: str) -> None:
         try:
             self.child = subprocess.Popen(
-                [path],
-                stdin=subprocess.PIPE,
-                stdout=subprocess.PIPE,
-                stderr=subprocess.PIPE,
-                env=environment(),
-                bufsize=0,
+                [path], stdin=subprocess.PIPE, stdout=subprocess.PIPE, stderr=subprocess.PIPE,
+                env=environment(), bufsize=0,
             )
         except OSError as fault:
             raise ProgramFailed(f"{path}: {fault.strerror}") from fault
@@ -62,7 +54,7 @@ class Process(Stream):
         assert child.stdin and child.stdout and child.stderr
         self.streams, self.stderr = (child.stdin, child.stdout, child.stderr), child.stderr
         super().__init__(path, child.stdout.fileno(), child.stdin.fileno())
-        # A write that finds the pipe full is told so, and waits no longer than it may.
+        # A write to a full pipe returns at once, so that it waits only until the deadline.
         os.set_blocking(self.sink, False)
 
     def end(self) -> None:
@@ -79,8 +71,8 @@ class Process(Stream):
         return os.writev(self.sink, parts)
 
     def lost(self, why: str) -> str:
-        """With what the program said on standard error until now: a program below it may hold that
-        open."""
+        """Adds what the program has written to standard error. It doesn't wait for the end of that,
+        which a program below may hold open."""
         self.child.kill()
         self.child.wait()
         os.set_blocking(self.stderr.fileno(), False)
@@ -89,7 +81,7 @@ class Process(Stream):
 
 
 class Connection(Stream):
-    """A connection to a service: at the path of its socket, or at a host and a port."""
+    """A connection to a service, at the path of its socket or at a host and a port."""
 
     def __init__(self, address: Any, deadline: Deadline) -> None:
         self.socket, name = connected(address, deadline), name_of(address)
@@ -114,7 +106,7 @@ def is_path(address: Any) -> bool:
 
 
 def name_of(address: Any) -> str:
-    """An address, as it is named in what is said of it.
+    """Returns an address as messages name it.
 
     >>> name_of(("localhost", 7007))
     'localhost:7007'
@@ -123,8 +115,8 @@ def name_of(address: Any) -> str:
 
 
 def places_of(address: Any) -> List[Tuple[int, Any]]:
-    """The places that an address stands for, each with its family: a host may have several. How
-    long the search for a host takes has limits of the system's own."""
+    """Returns the places of an address, each with its family; a host may have several. Only the system
+    limits how long the search for a host takes."""
     if is_path(address):
         return [(socket.AF_UNIX, os.fspath(address))]
     host, port = address
@@ -133,7 +125,7 @@ def places_of(address: Any) -> List[Tuple[int, Any]]:
 
 
 def connected(address: Any, deadline: Deadline) -> socket.socket:
-    """A socket that is connected to the first place of an address where somebody listens."""
+    """Returns a socket that is connected to the first place that accepts. Raises ProgramFailed."""
     why: Optional[OSError] = None
     try:
         for family, place in places_of(address):
@@ -150,12 +142,12 @@ def connected(address: Any, deadline: Deadline) -> socket.socket:
 
 
 def connected_to(family: int, place: Any, deadline: Deadline) -> socket.socket:
-    """A socket that is connected to a place, or what the system says that hinders it."""
+    """Returns a socket that is connected to a place. Raises OSError."""
     made = socket.socket(family, socket.SOCK_STREAM)
     try:
         connect(made, place, deadline)
         if family != socket.AF_UNIX:
-            # Else the end of a request may wait for the other side to acknowledge its front.
+            # Otherwise the end of a request may wait until the other side acknowledges its beginning.
             made.setsockopt(socket.IPPROTO_TCP, socket.TCP_NODELAY, 1)
     except BaseException:
         made.close()
@@ -164,7 +156,7 @@ def connected_to(family: int, place: Any, deadline: Deadline) -> socket.socket:
 
 
 def connect(made: socket.socket, place: Any, deadline: Deadline) -> None:
-    """Connects a socket, and leaves it without a limit of time of its own."""
+    """Connects a socket, and leaves it without a timeout."""
     while True:
         made.settimeout(deadline.left())
         try:

@@ -1,4 +1,4 @@
-"""The text or the frame that asks for an expression, and the tensor of an answer's line."""
+"""The text or the frame that asks for an expression, and the tensor of an answer."""
 
 from __future__ import annotations
 
@@ -25,10 +25,10 @@ from .rules import FIRST_ELEMENTS, MOST_ELEMENTS, Dims, places
 from .tensors import Placeholder, Tensor, an_expr
 from .values import whole
 
-# What version 1 of the request allows; more is asked for by version 2, and more elements, places of a
-# block and nodes by version 3.
+# Limits of version 1. More axes and workers need version 2. More elements, places of a block and nodes
+# need version 3.
 FIRST_RANK, FIRST_WORKERS = 6, 64
-# The version of a request that has an operation, where that isn't 1; frames alone have the third.
+# The first version that has an operation, if it isn't 1. Texts don't have version 3.
 VERSIONS = dict.fromkeys("stride pad concat convolve".split(), 2)
 VERSIONS.update(
     dict.fromkeys(
@@ -37,10 +37,10 @@ VERSIONS.update(
 )
 VERSIONS.update(dict.fromkeys(ALONG_AN_AXIS, 3))
 LAST_OF_TEXTS = 2
-# So many arrays in one another a text may have, its own object and an argument's two left out; and
-# with all arrays.
+# The most operations inside one another, which leaves room in a text for its object and two arrays of
+# an argument; and the most arrays inside one another.
 DEEPEST, MOST_NESTED = 120, 126
-# So many bytes a node of an expression has in a text at least: a name, and a comma behind it.
+# The fewest bytes of a node in a text: a name, and the comma after it.
 LEAST_NODE = 5
 
 # The text of a JSON value, without spaces.
@@ -49,7 +49,7 @@ compact: Callable[[Any], str] = json.JSONEncoder(separators=(",", ":")).encode
 
 @lru_cache(maxsize=1000)
 def opening(operation: str) -> str:
-    """What the text of an operation begins with, behind what stands before it."""
+    """Returns the beginning of an operation's text, with the comma before it."""
     return ",[" + compact(operation)
 
 
@@ -59,7 +59,7 @@ def commas(numbers: Iterable[int]) -> str:
 
 @lru_cache(maxsize=1000)
 def dims_text(dims: Dims) -> str:
-    """What a tensor of these dims has for them in a text.
+    """Returns the member of a tensor's text that has its dims.
 
     >>> dims_text((2, 3))
     '"dims":[2,3]'
@@ -69,7 +69,7 @@ def dims_text(dims: Dims) -> str:
 
 @lru_cache(maxsize=1000)
 def version_of(dims: Dims) -> int:
-    """The first version that has tensors of these dims.
+    """Returns the first version that has tensors of these dims.
 
     >>> version_of((1_048_576,)), version_of((2,) * 7), version_of((2_097_152, 0))
     (1, 2, 3)
@@ -80,7 +80,7 @@ def version_of(dims: Dims) -> int:
 
 
 def nested(text: str) -> int:
-    """How many arrays of a text stand in one another.
+    """Returns how many arrays of a text are inside one another.
 
     >>> nested('["sum","x0",[0]]')
     2
@@ -93,21 +93,22 @@ def nested(text: str) -> int:
 
 
 class Text:
-    """An expression's text, as it is put together, with its bindings in front: its inputs get names
-    by the order in which they stand, and its version is the least that has all its operations and
-    dims. It goes down a tree by a list of what is left, so that no depth is too great for it.
+    """The text of an expression and of its bindings, as it is put together. Inputs are named in the
+    order in which they appear. The version is the lowest that has all operations and dims. What is left
+    of the tree is kept in a list, so that a tree can be of any depth.
 
-    Where it looks for what stands again, it ends at the first such operation."""
+    With `looks` the text ends at the first operation that appears a second time.
+    """
 
     def __init__(
         self, expr: Expr, bindings: Optional[Bindings] = None, most: int = 0, looks: bool = False,
     ) -> None:
         parts, nodes, depth = bindings or ((), expr.nodes, expr.depth)
         self.names: Dict[int, Tuple[str, Tensor]] = {}
-        # The names of what is bound, as the text has them.
+        # The names of bound parts, as the text has them.
         self.bound: Dict[int, str] = {}
         self.version, self.nodes, self.balance = 1, nodes, depth > DEEPEST
-        # Inputs are taken as they lie in memory where each has a node more and these are so few.
+        # Inputs are taken as they lie in memory if `most` allows one more node for each.
         self.as_they_lie = 2 * nodes <= most
         self.seen: Optional[Set[int]] = set() if looks else None
         self.stands_again, self.dims = False, expr.dims
@@ -121,11 +122,11 @@ class Text:
         self.put(expr, pieces)
         if self.bound:
             pieces.append("]" * len(self.bound))
-        # Each piece but an end begins with a comma.
+        # Each piece begins with a comma, except an end.
         self.text = "".join(pieces)[1:]
 
     def put(self, expr: Expr, pieces: List[str]) -> None:
-        """Puts the text of an expression behind what is there."""
+        """Appends the text of an expression to `pieces`."""
         bound, seen = self.bound, self.seen
         left: List[Union[Expr, str]] = [expr]
         while left:
@@ -145,7 +146,8 @@ class Text:
                 pieces.append(self.begun(it, left))
 
     def name_of(self, it: Tensor) -> str:
-        """The name of an input, which is a new one where it hasn't stood before."""
+        """Returns the text for an input: its name, or a shuffle of it if it is taken in C order. An
+        input that appears for the first time gets a name."""
         found = self.names.get(id(it))
         if found is None:
             if it.dims is not self.dims:
@@ -158,16 +160,16 @@ class Text:
         return found[0]
 
     def lying(self, it: Tensor) -> Tuple[Dims, Held]:
-        """An input's dims and values as they are handed over."""
+        """Returns the dims and the values of an input as a request takes them."""
         dims = it.dims or ()
         return (dims[::-1], it.own) if self.as_they_lie and it.is_mirrored else (dims, it.held)
 
     def begun(self, it: Expr, left: List[Union[Expr, str]]) -> str:
-        """The text that an operation begins with; what stands behind that is put on the list."""
+        """Returns the beginning of an operation's text. What follows it is put on the list `left`."""
         if isinstance(it, Placeholder):
             raise TypeError(
-                f"{it!r} has no values: compile(..) takes them at each call, so in what it compiles "
-                "nothing runs: no bool, int or list of an expression, no sort, and no x[mask]"
+                f"{it!r} has no values until the compiled function is called: so no part of it can run "
+                "while it is compiled, for bool, int, a list, sort or x[mask]"
             )
         if it.dims is not self.dims:
             self.see(it.dims)
@@ -181,19 +183,19 @@ class Text:
         return opening(it.operation)
 
     def fits(self, most: int) -> bool:
-        """Whether a request may have it, and so many nodes."""
+        """Whether a request of at most `most` nodes can have this text."""
         return self.nodes <= most and not (self.balance and nested(self.text) > MOST_NESTED)
 
     def see(self, dims: Optional[Dims]) -> None:
-        """Asks for the version that has these dims, which are other than the last ones."""
+        """Raises the version to one that has these dims."""
         self.dims = dims
         if dims is not None:
             self.version = max(self.version, version_of(dims))
 
 
 class Settings(NamedTuple):
-    """What a request says beside its expression: by so many workers, so many places at a time, in
-    this version, which is else the least that has it all."""
+    """What a request says besides its expression: the number of workers, the places of a block, and the
+    version, which is the lowest that has everything if it isn't given."""
 
     workers: int = 1
     block: int = 4096
@@ -201,8 +203,8 @@ class Settings(NamedTuple):
 
 
 def text_of(expr: Expr, bindings: Optional[Bindings] = None, most: int = 0) -> Text:
-    """An expression's text, if it isn't too long already; over inputs as they lie in memory, where
-    so many nodes are enough for that, or over their values column-major."""
+    """Returns the text of an expression. Raises TooLong if it has too many nodes for any text. If `most`
+    nodes are enough for it, inputs are taken as they lie in memory."""
     nodes = expr.nodes if bindings is None else bindings.nodes
     if nodes > MAX_TEXT // LEAST_NODE:
         raise TooLong(too_many_nodes(expr, FIRST_NODES))
@@ -210,7 +212,7 @@ def text_of(expr: Expr, bindings: Optional[Bindings] = None, most: int = 0) -> T
 
 
 def text_of_texts(expr: Expr, version: Optional[int], most: int = 0) -> Text:
-    """The same in a version that texts have, in which others stand in the place of operations along
+    """Returns the text of an expression. Below version 3, other operations replace the operations along
     one axis."""
     found = text_of(expr, None, most)
     if found.version <= LAST_OF_TEXTS or version not in (None, 1, 2):
@@ -219,7 +221,7 @@ def text_of_texts(expr: Expr, version: Optional[int], most: int = 0) -> Text:
 
 
 def text_that_fits(expr: Expr, version: Optional[int], most: int = 0) -> Text:
-    """The same, if a request can have it."""
+    """Returns the text of an expression for a program of texts. Raises Unfit if it is too large."""
     if expr.nodes <= FIRST_NODES:
         found = text_of_texts(expr, version, most)
         if found.fits(FIRST_NODES):
@@ -228,8 +230,8 @@ def text_that_fits(expr: Expr, version: Optional[int], most: int = 0) -> Text:
 
 
 def text_of_frame(expr: Expr, version: Optional[int], is_apart: bool) -> Text:
-    """The same of a frame, which has bindings where its version does: of what stands several times,
-    and where that nests too deep, of what is deep."""
+    """Returns the text of an expression in a frame. If the version allows it, parts that appear several
+    times are bound, and if it nests too deep, deep parts too. Raises Unfit if it is too large."""
     most = most_nodes(version)
     if most == FIRST_NODES:
         return text_that_fits(expr, version, most)
@@ -248,7 +250,7 @@ def text_of_frame(expr: Expr, version: Optional[int], is_apart: bool) -> Text:
 
 
 def whole_text(found: Text, settings: Settings, inputs: Iterable[str]) -> str:
-    """The text of a request, with its inputs as they are put."""
+    """Returns the text of a request, given the texts of its inputs. Raises TooLong."""
     workers, version = whole(settings.workers), settings.version
     least = max(found.version, 2) if workers > FIRST_WORKERS else found.version
     text = (
@@ -262,9 +264,9 @@ def whole_text(found: Text, settings: Settings, inputs: Iterable[str]) -> str:
 
 
 def request(expr: Any, workers: int = 1, block: int = 4096, version: Optional[int] = None) -> str:
-    """The text that asks for an expression. Its version is the least that has its operations and
-    dims, and so many workers. A part that stands twice in the expression stands twice in the text,
-    and others stand in the place of operations along one axis.
+    """Returns the text that asks for an expression. Its version is the lowest that has the operations,
+    the dims and this number of workers. A part that is used twice appears twice in the text, and other
+    operations replace operations along one axis. Raises BadVersion and TooLong.
 
     >>> print(request(tensor(5)))
     {"version":1,"workers":1,"block":4096,"inputs":{"x0":{"dims":[],"data":[5]}},"expr":"x0"}
@@ -273,15 +275,15 @@ def request(expr: Any, workers: int = 1, block: int = 4096, version: Optional[in
 
 
 def fitting_request(expr: Expr, settings: Settings) -> str:
-    """The same, if a program answers it."""
+    """Returns the text that asks for an expression. Raises Unfit if no program of texts takes it."""
     return as_text(text_that_fits(expr, settings.version), settings)
 
 
 def as_text(found: Text, settings: Settings) -> str:
-    """The text of a request with its values in it."""
+    """Returns the text of a request with the values of its inputs. Raises BadVersion and TooLong."""
     if settings.version is None and found.version > LAST_OF_TEXTS:
-        why = f"operations on integers, or more than {FIRST_ELEMENTS:,} places"
-        raise BadVersion(f"no text has version {found.version}, {why}: the library and frames do")
+        why = f"integer operations, or more than {FIRST_ELEMENTS:,} places, need it"
+        raise BadVersion(f"no text has version {found.version}; {why}: use the library and frames")
     inputs = (
         f'{name[1:]}:{{{dims_text(it.dims or ())},"data":[{commas(it.values)}]}}'
         for name, it in found.names.values()
@@ -290,8 +292,7 @@ def as_text(found: Text, settings: Settings) -> str:
 
 
 class Framed(NamedTuple):
-    """A request as a frame: the header, how many values stand behind it, and these, a tensor's
-    behind another's, where they lie."""
+    """A request as a frame: the header, the number of values after it, and the values of each tensor."""
 
     header: bytes
     size: int
@@ -299,8 +300,8 @@ class Framed(NamedTuple):
 
 
 def framed(expr: Expr, settings: Settings, is_apart: bool = False) -> Framed:
-    """The frame that asks for an expression: its tensors stand in the order of their names. Its
-    answer may be worked out apart, by threads that each take a part of it.
+    """Returns the frame that asks for an expression. Its tensors are in the order of their names.
+    `is_apart` says that threads compute parts of the answer apart. Raises Unfit and TooLong.
 
     >>> framed(tensor([5, 7]), Settings()).header
     b'{"version":1,"workers":1,"block":4096,"inputs":{"x0":{"dims":[2]}},"expr":"x0"}'
@@ -308,7 +309,7 @@ def framed(expr: Expr, settings: Settings, is_apart: bool = False) -> Framed:
     found = text_of_frame(expr, settings.version, is_apart)
     named = list(found.names.values())
     if len(named) > 10:
-        # Behind "x1" stands "x10".
+        # "x10" comes right after "x1".
         named.sort(key=itemgetter(0))
     held, inputs, size = [], [], 0
     for name, it in named:
@@ -326,7 +327,7 @@ def framed(expr: Expr, settings: Settings, is_apart: bool = False) -> Framed:
 
 
 def fault_of(line: str, why: str = "") -> Optional[Fault]:
-    """The fault that a line tells of, if it tells of one."""
+    """Returns the fault that a line reports, or None for any other line."""
     words = line.split()
     if len(words) != 3 or words[0] != "error" or not words[1].isdigit():
         return None
@@ -334,7 +335,7 @@ def fault_of(line: str, why: str = "") -> Optional[Fault]:
 
 
 def answer(line: str, why: str = "") -> Tensor:
-    """The tensor of an answer's line. Raises the fault of an error's line.
+    """Returns the tensor in an answer's line. For an error it raises the fault, with the reason `why`.
 
     >>> answer('{"data":[5,7,9],"dims":[3]}').nested()
     [5, 7, 9]
@@ -347,7 +348,7 @@ def answer(line: str, why: str = "") -> Tensor:
 
 
 def header_answer(header: bytes, values: Held) -> Tensor:
-    """The tensor of an answer's frame. Raises the fault of an error's."""
+    """Returns the tensor of an answer's frame. If the frame is an error, raises its fault."""
     fault = fault_of(header.decode()) if header.startswith(b"error ") else None
     if fault:
         raise fault
@@ -356,7 +357,7 @@ def header_answer(header: bytes, values: Held) -> Tensor:
 
 @lru_cache(maxsize=1000)
 def dims_of(header: bytes) -> Dims:
-    """The dims that the header of an answer's frame tells.
+    """Returns the dims in the header of an answer's frame.
 
     >>> dims_of(b'{"dims":[2,3]}')
     (2, 3)

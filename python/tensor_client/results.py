@@ -1,5 +1,4 @@
-"""Where an answer's values go, and in which order: into new memory, or into an array that is
-there."""
+"""Where an answer's values go, and in which order: into new memory, or into the array `out`."""
 
 from __future__ import annotations
 
@@ -18,9 +17,9 @@ from .values import numpy
 
 
 class Result:
-    """The place of an answer's values. They are `turned` where they stand in numpy's common order,
-    the last axis fastest: then the expression is asked for with its axes in reverse order, which
-    gives them so. Where inputs stand in that order it is asked for over them as they lie."""
+    """The place of an answer's values. If they are `turned`, they are wanted in C order: then the
+    request asks for the expression with its axes reversed, in column-major order. If the inputs lie in C
+    order, the request takes them as they lie."""
 
     def __init__(
         self, expr: Expr, out: Any = None, turned: Optional[bool] = None, most: int = MOST_NODES,
@@ -35,34 +34,34 @@ class Result:
         self.turned = can_be_turned and is_wanted
 
     def asked(self, expr: Expr) -> Expr:
-        """What is asked for."""
+        """Returns the expression that the request asks for."""
         found = mirrored(expr) if lie_mirrored(expr) else None
         if found is None or not lies_as_it_is(found, self.most):
             return reversed_axes(expr) if self.turned else expr
         return found if self.turned else reversed_axes(found)
 
     def check(self, dims: Dims) -> None:
-        """Sees that an answer of these dims is the array's."""
+        """Raises ValueError if `out` doesn't have the dims of this answer."""
         wanted = dims[::-1] if self.turned else dims
         if self.out is not None and self.out.shape != wanted:
             raise ValueError(f"out has dims {self.out.shape}, and the answer {wanted}")
 
     def own(self, inputs: Sequence[Held]) -> Optional[memoryview]:
-        """The array's own memory, if the answer can be written there as it comes, and overlaps no
-        input."""
+        """Returns the memory of `out` if the answer can be written into it directly: if the order is
+        right and no input overlaps it."""
         if self.out is None or not (self.turned or self.out.flags.f_contiguous):
             return None
         own, memories = memory_of_out(self.out), [it for it in inputs if not isinstance(it, list)]
         return None if any(overlap(own, it) for it in memories) else own
 
     def place(self, dims: Dims, inputs: Sequence[Held]) -> memoryview:
-        """Memory for an answer of these dims, which overlaps no input: the array's own, if it can
-        be."""
+        """Returns memory for an answer of these dims, which overlaps no input: the memory of `out` if
+        possible."""
         self.check(dims)
         return self.own(inputs) or memory_for(product(dims))
 
     def place_of_frame(self, inputs: Sequence[Held]) -> Optional[Place]:
-        """The array's own memory, for the values of a frame of the array's dims."""
+        """Returns the memory of `out`, for the values of a frame with its dims."""
         own = self.own(inputs)
         if own is None:
             return None
@@ -70,7 +69,7 @@ class Result:
         return Place(f"{{{dims_text(dims)}}}".encode(), own)
 
     def of_frame(self, found: Tensor, truth: bool) -> Tensor:
-        """The tensor of a frame that was answered."""
+        """Returns the tensor of an answer's frame."""
         if self.out is None and not self.turned:
             found.truth = truth
             return found
@@ -78,8 +77,8 @@ class Result:
         return self.tensor(found.own, found.dims or (), truth)
 
     def tensor(self, values: Held, dims: Dims, truth: bool) -> Tensor:
-        """The tensor of an answer, whose values and dims are as they were asked for. What stands in
-        an array that others may write needn't stay truth values."""
+        """Returns the tensor of an answer, given the values and dims that the request asked for. In
+        `out` its values are numbers, since others may write into the array."""
         dims, truth = dims[::-1] if self.turned else dims, truth and self.out is None
         found = Tensor(values, dims, truth, turned=self.turned)
         if self.out is not None:
@@ -89,9 +88,8 @@ class Result:
 
 
 def lies_as_it_is(expr: Expr, most: int) -> bool:
-    """Whether an expression has so few nodes that its inputs can be taken in numpy's common order,
-    and its answer be given so: its axes in reverse order are a node more, and so is each input that
-    is turned back.
+    """Whether an expression is small enough to take its inputs and give its answer in C order. Reversed
+    axes add a node, and so does each input that has to be reversed.
 
     >>> lies_as_it_is(tensor([1, 2]) + 1, 10)
     True
@@ -100,13 +98,13 @@ def lies_as_it_is(expr: Expr, most: int) -> bool:
 
 
 def are_turned(expr: Expr) -> bool:
-    """Whether an answer is best given in numpy's common order: some inputs stand so, and none of
-    several axes and many values stands otherwise."""
+    """Whether an answer is best given in C order: it has several axes, an input lies in C order, and no
+    large input with several axes lies otherwise."""
     return len(expr.dims or ()) > 1 and lie_mirrored(expr)
 
 
 def written(found: Tensor, expr: Expr, out: Any) -> Tensor:
-    """The tensor of an answer that came into memory of its own, written into the array too."""
+    """Returns the tensor of an answer in new memory, and writes its values into `out` if that is given."""
     if out is None:
         found.truth = expr.truth
         return found
@@ -117,18 +115,18 @@ def written(found: Tensor, expr: Expr, out: Any) -> Tensor:
 
 
 def checked_out(out: Any) -> Any:
-    """An array into which an answer can be written as it is."""
+    """Returns `out` if an answer can be written into it. Raises TypeError or ValueError if not."""
     if numpy is None or not isinstance(out, numpy.ndarray):
-        raise TypeError(f"out is no array of numpy: {type(out).__name__}")
+        raise TypeError(f"out isn't an array of numpy: {type(out).__name__}")
     flags = out.flags
     if out.dtype != INT64 or not flags.writeable or not flags.aligned:
-        raise TypeError(f"out is no array of int64 that can be written: {out.dtype}")
+        raise TypeError(f"out isn't an array of int64 that can be written into: {out.dtype}")
     if not flags.f_contiguous and not flags.c_contiguous:
-        raise ValueError("out has gaps: an array without gaps takes an answer")
+        raise ValueError("out has gaps: it has to be an array without gaps, in C or Fortran order")
     return out
 
 
 def memory_of_out(out: Any) -> memoryview:
-    """The memory of an array without gaps."""
+    """Returns the memory of an array without gaps."""
     memory: memoryview = out.reshape(-1, order="F" if out.flags.f_contiguous else "C").data
     return memory

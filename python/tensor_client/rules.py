@@ -1,6 +1,6 @@
-"""The result dims of each operation, or the fault that its operands have: docs/REQUEST.md's rules,
-looked at where an expression is written. The program looks at them again. And expressions repeated
-over the dims that numpy's rule gives for several."""
+"""The dims of each operation's result, or the fault of its operands, by the rules of docs/REQUEST.md.
+They are applied when an expression is written, and the program applies them again. Also numpy's
+broadcasting rule, and expressions repeated by it."""
 
 from __future__ import annotations
 
@@ -14,17 +14,17 @@ if TYPE_CHECKING:
 Dims = Tuple[int, ...]
 Pairs = Sequence[Sequence[int]]
 
-# What version 3 of the request allows; the earlier ones allow less (requests.py).
+# Limits of version 3 of the request. Earlier versions allow less (requests.py).
 MOST_ELEMENTS = 268_435_456
 MOST_PRODUCTS = 1_073_741_824
 MOST_RANK = 8
-# So many elements each version has: what takes all pairs of places takes so many of these at a time,
-# and more where there would be more pieces.
+# The most elements in all versions. An operation over all pairs of places takes pieces of this size,
+# or larger ones if there would be more than MOST_PIECES.
 FIRST_ELEMENTS, MOST_PIECES = 1_048_576, 50
 
 
 def product(numbers: Sequence[int]) -> int:
-    """The product, in which a 0 counts.
+    """Returns the product of some numbers; 1 if there are none.
 
     >>> product([2, 3]), product([])
     (6, 1)
@@ -36,7 +36,7 @@ def product(numbers: Sequence[int]) -> int:
 
 
 def places(dims: Sequence[int]) -> int:
-    """The product, in which a 0 counts as 1: as many elements a tensor of these dims counts for.
+    """Returns the product in which a 0 counts as 1: the elements that limits count for these dims.
 
     >>> places([2, 0, 3])
     6
@@ -48,18 +48,16 @@ def places(dims: Sequence[int]) -> int:
 
 
 def legal(dims: Sequence[int]) -> Dims:
-    """Dims that a tensor may have."""
+    """Returns these dims as a tuple. Raises TooLarge if no tensor may have them."""
     if len(dims) > MOST_RANK:
-        raise TooLarge(f"{len(dims)} axes, and there may be {MOST_RANK}: reshape some into one")
+        raise TooLarge(f"{len(dims)} axes, of at most {MOST_RANK}: reshape some into one")
     if places(dims) > MOST_ELEMENTS:
-        raise TooLarge(
-            f"dims {tuple(dims)} have more than {MOST_ELEMENTS:,} places: run a part at a time"
-        )
+        raise TooLarge(f"dims {tuple(dims)} have more than {MOST_ELEMENTS:,} places: run a part at a time")
     return tuple(dims)
 
 
 def piece(count: int, others: int) -> int:
-    """How many of so many places are taken at a time, where each stands beside so many others.
+    """Returns how many of `count` places to take at a time, if each is paired with `others` places.
 
     >>> piece(3_000_000, 10), piece(100_000_000, 10), piece(1_000, 1_000_000)
     (104857, 2000000, 20)
@@ -76,9 +74,9 @@ def sizes(numbers: Sequence[int]) -> List[int]:
 
 
 def axis_of(axis: int, rank: int) -> int:
-    """An axis by its number; a negative one counts from behind."""
+    """Returns an axis by its number. A negative one counts from the end. Raises OutOfRange."""
     if not -rank <= axis < rank:
-        raise OutOfRange(f"axis {axis} of {rank}")
+        raise OutOfRange(f"axis {axis} is out of range for {rank} axes")
     return axis % rank
 
 
@@ -95,8 +93,8 @@ def one_each(what: str, arguments: Sequence[object], dims: Dims) -> None:
 
 
 def fitted(*shapes: Dims) -> Dims:
-    """The dims over which numpy repeats operands of these dims: from the last axis on, equal
-    numbers or 1.
+    """Returns the dims over which numpy broadcasts operands of these dims: from the last axis on,
+    lengths are equal or 1. Raises ShapeMismatch.
 
     >>> fitted((2, 1), (3,))
     (2, 3)
@@ -119,7 +117,7 @@ def broadcast(dims: Dims, counts: Sequence[int]) -> Dims:
     one_each("counts", counts, dims)
     for it in counts:
         if it < 1:
-            raise OutOfRange(f"repeated {it} times: {tuple(counts)}")
+            raise OutOfRange(f"a count below 1: {tuple(counts)}")
     return legal([dim * count for dim, count in zip(dims, counts)])
 
 
@@ -128,7 +126,7 @@ def sliced(dims: Dims, offsets: Sequence[int], extents: Sequence[int]) -> Dims:
     one_each("extents", extents, dims)
     for dim, offset, extent in zip(dims, sizes(offsets), sizes(extents)):
         if offset + extent > dim:
-            raise OutOfRange(f"{extent} from {offset} on, of {dim}")
+            raise OutOfRange(f"{extent} places from offset {offset} on don't fit an axis of {dim} places")
     return tuple(extents)
 
 
@@ -140,13 +138,13 @@ def shuffled(dims: Dims, order: Sequence[int]) -> Dims:
 def reshaped(dims: Dims, to: Sequence[int]) -> Dims:
     found = legal(sizes(to))
     if product(found) != product(dims):
-        raise ShapeMismatch(f"{product(dims)} places of dims {dims} in dims {found}")
+        raise ShapeMismatch(f"the {product(dims)} places of dims {dims} don't fit dims {found}")
     return found
 
 
 def chipped(dims: Dims, offset: int, axis: int) -> Dims:
     if not 0 <= offset < dims[axis]:
-        raise OutOfRange(f"offset {offset} of {dims[axis]} along axis {axis}")
+        raise OutOfRange(f"offset {offset} is out of range for the {dims[axis]} places of axis {axis}")
     return without(dims, [axis])
 
 
@@ -154,7 +152,7 @@ def strided(dims: Dims, steps: Sequence[int]) -> Dims:
     one_each("steps", steps, dims)
     for it in steps:
         if it < 1:
-            raise OutOfRange(f"a step of {it}")
+            raise OutOfRange(f"a step below 1: {it}")
     return tuple(-(-dim // step) for dim, step in zip(dims, steps))
 
 
@@ -165,7 +163,7 @@ def padded(dims: Dims, pairs: Pairs) -> Dims:
 
 def joined(left: Dims, right: Dims, axis: int) -> Dims:
     if len(left) != len(right) or without(left, [axis]) != without(right, [axis]):
-        raise ShapeMismatch(f"dims {left} and {right} along axis {axis}")
+        raise ShapeMismatch(f"dims {left} and {right} can't be joined along axis {axis}")
     return legal([*left[:axis], left[axis] + right[axis], *left[axis + 1 :]])
 
 
@@ -176,42 +174,40 @@ def taken(dims: Dims, indices: Dims, axis: int) -> Dims:
 def contracted(left: Dims, right: Dims, ours: Sequence[int], theirs: Sequence[int]) -> Dims:
     for our, their in zip(ours, theirs):
         if left[our] != right[their]:
-            raise ShapeMismatch(f"axis {our} of dims {left} with axis {their} of dims {right}")
+            raise ShapeMismatch(f"axis {our} of dims {left} isn't as long as axis {their} of dims {right}")
     return legal(without(left, ours) + without(right, theirs))
 
 
 def slid(dims: Dims, kernel: Dims, axes: Sequence[int]) -> Dims:
-    """The dims of a convolution along axes."""
+    """Returns the dims of a convolution with a kernel along these axes."""
     if len(kernel) != len(axes):
         raise ShapeMismatch(f"a kernel of dims {kernel} along {len(axes)} axes")
     along = dict(zip(axes, kernel))
     for axis, it in along.items():
         if not 1 <= it <= dims[axis]:
-            raise OutOfRange(f"{it} of a kernel along axis {axis} of dims {dims}")
+            raise OutOfRange(f"a kernel of {it} places along axis {axis} of dims {dims}")
     found = tuple(it - along.get(axis, 1) + 1 for axis, it in enumerate(dims))
     if product(found) * product(kernel) > MOST_PRODUCTS:
-        raise TooLarge(
-            f"a convolution of more than {MOST_PRODUCTS:,} products: run a part at a time"
-        )
+        raise TooLarge(f"a convolution of more than {MOST_PRODUCTS:,} products: run a part at a time")
     return found
 
 
 def spread(expr: Expr, dims: Dims) -> Expr:
-    """An expression, repeated over dims that it fits by numpy's rule."""
+    """Repeats an expression over dims that it fits by numpy's broadcasting rule."""
     if expr.dims is None or expr.dims == dims:
         return expr
     own = (1,) * (len(dims) - len(expr.dims)) + expr.dims
     wide = expr if own == expr.dims else expr.in_dims(own)
     counts = [dim if have == 1 else 1 for have, dim in zip(own, dims)]
     if 0 in counts:
-        # One place, repeated no times: none of it is taken.
+        # A place that is repeated 0 times: none of it is taken.
         wide = wide.slice([0] * len(dims), [min(it) for it in zip(own, dims)])
         counts = [max(it, 1) for it in counts]
     return wide if set(counts) <= {1} else wide.broadcast(counts)
 
 
 def alike(*exprs: Expr) -> List[Expr]:
-    """Expressions, each repeated over the dims that numpy's rule gives for all."""
+    """Repeats expressions over the dims that numpy's broadcasting rule gives for all."""
     shapes = [it.dims for it in exprs]
     if None in shapes or shapes.count(shapes[0]) == len(shapes):
         return list(exprs)

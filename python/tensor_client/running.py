@@ -1,5 +1,5 @@
-"""Has expressions answered: by the library in this process, by a process a request, or by a
-session, which keeps a process open, or a connection."""
+"""Runs expressions: by the library in this process, by a process for each request, or by a session,
+which keeps a process or a connection open."""
 
 from __future__ import annotations
 
@@ -22,11 +22,11 @@ from .streams import Deadline, Stream, frame_asked, line_asked
 from .tensors import Tensor, an_expr, tensor
 
 WAYS, SESSIONS = ("library", "frames", "process"), ("frames", "lines")
-# So long a service of lines may take to answer the first request, where no limit is given.
+# The seconds that a service of lines has for the first answer, if there is no timeout.
 FIRST_SECONDS = 10
 NO_PROGRAMS = (
-    "a wheel has the library alone, by which `run` and `compile` answer; a release's archive and its "
-    "Debian packages have the programs, and the repository's ./install puts them on PATH"
+    "a wheel has only the library, which `run` and `compile` use; a release's archive and its Debian "
+    "packages have the programs, and ./install of the repository puts them on PATH"
 )
 
 
@@ -35,15 +35,20 @@ def run(
     program: Any = None, timeout: Optional[float] = None, way: Optional[str] = None,
     out: Any = None,
 ) -> Tensor:
-    """The tensor of an expression's values, by so many workers, which take so many places at a
-    time; neither changes a value. Raises the program's fault, by its class, and TimedOut where
-    there is no answer within so many seconds.
+    """Evaluates an expression, and returns its tensor.
 
-    The way is "library", on so many threads of this process, or a process for this request, asked
-    by "frames" or, as "process", by a text. `program` is the path of what answers. Where no way is
-    said it is the first that is found; the library has no limit of time. `out` is an array of
-    numpy, of int64 and without gaps, into which the values are written; where there is a fault it
-    may have any values. An expression that is too long for one request runs in parts.
+    `workers` is the number of threads, and `block` the number of places that one takes at a time;
+    neither changes a value. `version` is the version of the request, by default the lowest. `way` is
+    "library" for the library in this process, or "frames" or "process" for a process that takes a frame
+    or a text. By default it is the first way that is found. `program` is the path of the library or the
+    program. `timeout` limits the time in seconds, which isn't possible with the library. The values are
+    written into `out` if that is given: an int64 array of numpy with the dims of the answer and without
+    gaps. After a fault it may have any values. An expression that is too long for one request runs in
+    parts.
+
+    Raises a Fault, by its class; TimedOut; ProgramFailed if nothing answers; ValueError for an unknown
+    way, for a timeout with the library, or for an `out` with gaps or other dims; and TypeError for any
+    other `out` that doesn't fit.
 
     >>> run(tensor([1, 2]) + 10).nested()
     [11, 12]
@@ -70,7 +75,7 @@ def answered(
     asked: Expr, settings: Settings, program: Any, timeout: Optional[float], way: Optional[str],
     out: Any,
 ) -> Tensor:
-    """The tensor of an expression's values, by a process for this request."""
+    """Returns the tensor of an expression, by a process for this request."""
     if way == "frames" or (way is None and program is None and built(FRAMES)):
         with Session(program=program, timeout=timeout, way="frames") as session:
             return session._answered(asked, settings, timeout, out)
@@ -85,14 +90,15 @@ def answered(
 
 
 def library_asked(named: Any, timeout: Optional[float]) -> Library:
-    """The library that is asked for by its way, which can't be interrupted."""
+    """Returns the library for way="library". Raises ValueError for a timeout, since a call of the
+    library can't be interrupted."""
     if timeout is not None:
-        raise ValueError("the library has no limit of time: a process has, way='process'")
+        raise ValueError("the library has no limit of time: a process has one, by way='process'")
     return library_named(named)
 
 
 def program_of_session(program: Any, way: str) -> str:
-    """The path of a session's program, or how to have one."""
+    """Returns the path of a session's program. Raises ProgramFailed, which says how to get one."""
     try:
         return program_of(program, FRAMES if way == "frames" else LINES)
     except ProgramFailed as fault:
@@ -100,16 +106,16 @@ def program_of_session(program: Any, way: str) -> str:
 
 
 class Session:
-    """A process that answers one request after another, which stays open, or a connection to a
-    service: for many small ones.
+    """A process that stays open and answers many requests, or a connection to a service.
 
-    It is asked by "frames" where that program is found, and else by "lines", which are texts; `way`
-    says which, and has to where `program` is the path of one, or `address` where a service listens:
-    the path of a socket, or a host and a port. `timeout` is how many seconds each answer may take,
-    and the connection. A request that has no answer is asked no second time, and the session is
-    over then.
+    `way` is "frames" or "lines", which are texts. By default it is "frames" if that program is found,
+    and otherwise "lines". It has to be given with `program`, the path of a program, and with `address`,
+    the path of a service's socket or a pair of a host and a port. `timeout` limits the time of each
+    answer, and of the connection, in seconds. A request without an answer isn't repeated, and the
+    session is over.
 
-    One thread at a time asks a session; others wait. It ends with its `with`, or by close().
+    Only one thread at a time uses a session; the others wait. It ends with its `with`, or by close().
+    Raises ProgramFailed if there is no program or service, and ValueError without a valid `way`.
 
     >>> with Session(workers=4) as s:
     ...     s.run(tensor([1, 2]) + 10).nested()
@@ -136,7 +142,7 @@ class Session:
             return
         self.stream = Connection(address, Deadline(timeout))
         if self.way == "lines" and timeout is None:
-            # A service of frames would wait for the rest of the first one without an end.
+            # A service of frames would wait for the rest of a frame forever.
             with self.stream:
                 line_asked(self.stream, request(tensor(1)), Deadline(FIRST_SECONDS))
             self.stream.answered = 0
@@ -148,7 +154,7 @@ class Session:
         self.close()
 
     def close(self) -> None:
-        """Ends the process, or the connection. A session that is closed answers nothing more.
+        """Ends the process, or the connection. A closed session answers nothing more.
 
         >>> s = Session()
         >>> s.close()
@@ -160,7 +166,8 @@ class Session:
         self, expr: Any, workers: Optional[int] = None, block: Optional[int] = None,
         version: Optional[int] = None, timeout: Optional[float] = None, out: Any = None,
     ) -> Tensor:
-        """The tensor of an expression's values, as `run` gives it.
+        """Evaluates an expression, and returns its tensor, as the function `run`. By default the
+        workers, the block and the timeout are the session's.
 
         >>> with Session() as s:
         ...     s.run(tensor([1, 2]).sum(), workers=2).item()
@@ -183,8 +190,8 @@ class Session:
             raise
 
     def keep(self, expr: Any) -> Tensor:
-        """The tensor of an expression that several requests are made of: each would have it worked
-        out again. What stands several times in one request is worked out once there, by frames.
+        """Returns the tensor of an expression that several requests use. Without it, each request would
+        evaluate the expression again. A frame evaluates a part that is used several times in it once.
 
         >>> with Session() as s:
         ...     part = s.keep(tensor([1, 2]) + 1)
@@ -196,13 +203,13 @@ class Session:
     def _answered(
         self, expr: Expr, settings: Settings, seconds: Optional[float], out: Any
     ) -> Tensor:
-        """The tensor of an expression's values, or its fault."""
+        """Returns the tensor of an expression, or raises its fault."""
         if self.way == "lines":
             text = fitting_request(expr, settings)
             with self.turn, self.stream:
                 line = line_asked(self.stream, text, Deadline(seconds))
             return written(answer(line), expr, out)
-        # Few values are a list, which stands column-major.
+        # A few values are a list, in column-major order.
         is_list = out is None and product(expr.dims or ()) <= FEW
         result = Result(expr, out, False if is_list else None, most_nodes(settings.version))
         asked = framed(result.asked(expr), settings)

@@ -1,4 +1,4 @@
-"""Tensors as text: as numpy shows their arrays, or where numpy isn't installed as lists."""
+"""Tensors as text: as numpy shows arrays, or as lists if numpy isn't installed."""
 
 from __future__ import annotations
 
@@ -10,12 +10,12 @@ from .values import numpy
 if TYPE_CHECKING:
     from .tensors import Tensor
 
-# So many parts of a list are shown of one that has more values than so many.
+# If a tensor has more than MOST values, EDGE items of each list are shown.
 EDGE, MOST = 6, 1000
 
 
 def shown(x: Tensor) -> str:
-    """A call that makes a tensor, where nothing is left out.
+    """Returns a tensor as a call that makes it, if no values are left out.
 
     >>> numpy.array(1), tensor([[1, 20], [3, 4]])
     (array(1), tensor([[ 1, 20],
@@ -30,7 +30,7 @@ def shown(x: Tensor) -> str:
 
 
 def shown_as_list(x: Tensor) -> str:
-    """Nested lists, the end of what is long left out.
+    """Returns a tensor as nested lists, without the ends of long lists.
 
     >>> shown_as_list(tensor([[1, 20], [3, 4]]))
     '[[1, 20], [3, 4]]'

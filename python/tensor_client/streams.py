@@ -1,5 +1,5 @@
-"""Streams that answer one request after another, as a process and a connection do, and what is
-asked over them: a line for a line, or a frame for a frame."""
+"""Streams to a process or a service that answers one request after another. Requests and answers are
+lines, or frames."""
 
 from __future__ import annotations
 
@@ -16,23 +16,23 @@ from .requests import Framed
 from .rules import MOST_ELEMENTS
 
 SIZES = struct.Struct("<QQ")
-# So many bytes are read at once, and so many parts written.
+# The most bytes of one read, and the most parts of one write.
 PIECE, PARTS = 1 << 16, 1000
 
 
 class Deadline:
-    """The time until which an answer has to be there, or none."""
+    """The time by which an answer has to come, or no limit."""
 
     def __init__(self, seconds: Optional[float]) -> None:
         self.seconds = seconds
         self.end = None if seconds is None else time.monotonic() + seconds
 
     def left(self) -> Optional[float]:
-        """How many seconds are left, which are none where the time is over."""
+        """Returns how many seconds are left, 0 if the time is over, or None without a limit."""
         return None if self.end is None else max(self.end - time.monotonic(), 0)
 
     def lets(self, file: int, event: int) -> bool:
-        """Waits until a file can be read or written; whether it can, in time."""
+        """Waits until a file can be read or written. Returns False if the time is over first."""
         poll = select.poll()
         poll.register(file, event)
         left = self.left()
@@ -40,14 +40,14 @@ class Deadline:
 
 
 class Stream:
-    """What is written to, and read from. Where a request has no answer it is ended, since an answer
-    that comes later would be taken for the next one's, and it isn't asked again."""
+    """A stream of requests and answers. A request without an answer ends the stream, since an answer
+    that came later would be taken for the next one. No request is sent twice."""
 
     def __init__(self, name: str, source: int, sink: int) -> None:
-        # The files that are read and written.
+        # The file descriptors to read from and to write to.
         self.name, self.source, self.sink = name, source, sink
-        # How many requests were answered; and of the one that is asked now how many bytes it has,
-        # how many were sent, and how many of its answer came.
+        # The number of answered requests; and the size of the current request, the bytes of it
+        # that were sent, and the bytes of its answer that came.
         self.answered, self.size, self.sent, self.came = 0, 0, 0, 0
         self.is_over = False
 
@@ -60,23 +60,23 @@ class Stream:
             self.end()
 
     def end(self) -> None:
-        """Ends it, so that nothing more is answered."""
+        """Ends the stream, so that nothing more is answered."""
         raise NotImplementedError
 
     def close(self) -> None:
-        """Ends it, and lets go of what it has open."""
+        """Ends the stream and closes its files."""
         raise NotImplementedError
 
     def send(self, parts: List[memoryview]) -> int:
-        """Writes some bytes from the front, without waiting, and says how many."""
+        """Writes bytes from the beginning of these parts, without waiting. Returns how many."""
         raise NotImplementedError
 
     def lost(self, why: str) -> str:
-        """What is said where there comes no more."""
+        """Returns the message for a stream that has ended."""
         raise NotImplementedError
 
     def so_far(self) -> str:
-        """What was answered, and what wasn't."""
+        """Returns what was answered and what was not, for a message."""
         return (
             f"answers before: {self.answered:,}; of this request {self.sent:,} of {self.size:,} "
             f"bytes were sent, and {self.came:,} bytes of its answer came"
@@ -92,8 +92,8 @@ class Stream:
             raise TimedOut(f"{said}; {self.so_far()}")
 
     def write(self, parts: List[Bytes], deadline: Deadline) -> None:
-        """Writes all parts of a request, one behind another."""
-        # By bytes; a view of nothing is no view of these.
+        """Writes all parts of a request, one after another."""
+        # As bytes. An empty memoryview can't be cast.
         left = [memoryview(it).cast("B") for it in parts if it]
         self.size, self.sent, self.came = sum(map(len, left)), 0, 0
         if self.is_over:
@@ -113,7 +113,7 @@ class Stream:
                 left[0] = left[0][sent:]
 
     def read(self, deadline: Deadline) -> bytes:
-        """The next bytes, as many as are there."""
+        """Returns the next bytes, as many as one read gives."""
         self.await_some(deadline)
         try:
             found = os.read(self.source, PIECE)
@@ -123,7 +123,7 @@ class Stream:
         return found
 
     def read_into(self, room: memoryview, deadline: Deadline) -> int:
-        """Reads the next bytes to the front of a room, as many as are there, and says how many."""
+        """Reads the next bytes into the beginning of `room`, and returns how many."""
         self.await_some(deadline)
         try:
             count = os.readv(self.source, [room])
@@ -133,26 +133,26 @@ class Stream:
         return count
 
     def await_some(self, deadline: Deadline) -> None:
-        """Waits until something can be read; without a limit of time the read itself does."""
+        """Waits until something can be read. Without a deadline the read itself waits."""
         if deadline.end is not None:
             self.wait(self.source, select.POLLIN, deadline)
 
     def note(self, count: int) -> None:
-        """Counts bytes that were read; none are the end."""
+        """Counts bytes that were read. Raises ProgramFailed for none: the stream has ended."""
         if not count:
             raise self.failed("it ended")
         self.came += count
 
 
 class Place(NamedTuple):
-    """Memory for the values of an answer's frame, and the header which that then has."""
+    """Memory for the values of an answer's frame, and the header that this frame has to have."""
 
     header: bytes
     memory: memoryview
 
 
 def line_asked(stream: Stream, text: str, deadline: Deadline) -> str:
-    """The line that answers a text, by lines."""
+    """Sends a text, and returns the line that answers it."""
     stream.write([text.encode() + b"\n"], deadline)
     pieces: List[bytes] = []
     while not pieces or b"\n" not in pieces[-1]:
@@ -166,9 +166,9 @@ def line_asked(stream: Stream, text: str, deadline: Deadline) -> str:
 def frame_asked(
     stream: Stream, asked: Framed, deadline: Deadline, place: Optional[Place] = None
 ) -> Tuple[bytes, Held]:
-    """The header and the values of the frame that answers a frame, by frames. The values are read
-    into their place, where the header is the one that this is for."""
-    # What answers lines says at once that the first frame is none: it ends in a line feed.
+    """Sends a frame, and returns the header and the values of the frame that answers it. The values are
+    read into `place` if the answer has its header and its number of values."""
+    # The first header ends in a line feed: so a program of lines answers at once, by an error.
     is_first = not stream.answered and len(asked.header) < MAX_TEXT
     header = asked.header + b"\n" * is_first
     sizes = SIZES.pack(len(header), asked.size)
@@ -197,9 +197,9 @@ def frame_asked(
 
 
 def filled(stream: Stream, begun: bytes, values: memoryview, deadline: Deadline) -> memoryview:
-    """A memory, filled with the values that come, the first bytes of which were read."""
+    """Fills memory with the values that come. `begun` has the bytes that were read already."""
     if not values:
-        # A view of nothing is no view of bytes.
+        # An empty memoryview can't be cast.
         return values
     room = values.cast("B")
     room[: len(begun)] = begun

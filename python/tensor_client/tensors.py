@@ -1,5 +1,4 @@
-"""Tensors: the inputs of expressions, and what these are answered with; and how an array, a list or
-a number becomes one."""
+"""Tensors: the inputs of expressions and the answers of `run`, made of arrays, lists and numbers."""
 
 from __future__ import annotations
 
@@ -20,15 +19,16 @@ from .values import (
     numpy, unnested, value_of, whole,
 )
 
-# Placeholders are numbered as they are made.
+# Numbers for placeholders, in the order in which they are made.
 NUMBERS = count()
 
 
 class Tensor(Expr):
-    """Dims and values, column-major: an input of an expression, or what one was answered with.
+    """Dims and values: an input of an expression, or an answer.
 
-    The values are `held` as a list or in memory, which is `shared` where others may write into it,
-    and `turned` where they stand there in numpy's common order, the last axis fastest.
+    The values are whole numbers in the range of i64, or truth values. They are a list, or lie in memory.
+    `shared` says that others may write into this memory. `turned` says that the values lie in C order,
+    the last axis fastest; otherwise they are column-major.
 
     >>> tensor([[1, 2], [3, 4]]).values
     [1, 3, 2, 4]
@@ -40,7 +40,7 @@ class Tensor(Expr):
         self, values: Held, dims: Sequence[int], truth: bool = False, shared: bool = False,
         turned: bool = False,
     ) -> None:
-        # What Expr's own would do, in less time: an answer is made at each call.
+        # As Expr.__init__ does, but faster: each answer is a new tensor.
         self.operation, self.operands, self.arguments = "tensor", (), ()
         self.dims, self.truth, self.depth, self.nodes = tuple(dims), truth, 1, 1
         self.own, self.shared, self.turned, self.ran = values, shared, turned, 0
@@ -48,7 +48,7 @@ class Tensor(Expr):
 
     @property
     def held(self) -> Held:
-        """The values column-major, which is a copy of those that stand otherwise.
+        """The values in column-major order, as a list or in memory. Values in C order are copied.
 
         >>> tensor([[1, 2], [3, 4]]).held
         [1, 3, 2, 4]
@@ -58,7 +58,7 @@ class Tensor(Expr):
         return self.own
 
     def as_numbers(self) -> Tensor:
-        """The same values, which needn't be truth values.
+        """Returns the values as numbers, without a copy. Truth values become 0 and 1.
 
         >>> tensor([True, False]).as_numbers()
         tensor([1, 0])
@@ -67,7 +67,7 @@ class Tensor(Expr):
 
     @property
     def is_large(self) -> bool:
-        """Whether the values are many.
+        """Whether there are at least 4,096 values.
 
         >>> tensor([1, 2]).is_large
         False
@@ -76,8 +76,8 @@ class Tensor(Expr):
 
     @property
     def is_mirrored(self) -> bool:
-        """Whether the values are handed over in numpy's common order. Few values of an array that
-        is lent are handed over as a copy, which costs less.
+        """Whether a request takes the values in C order, as they lie. A small array that others may
+        write into is copied to column-major order instead, which costs less.
 
         >>> tensor([[1, 2], [3, 4]]).is_mirrored
         False
@@ -94,12 +94,12 @@ class Tensor(Expr):
         return self
 
     def __reduce__(self) -> Any:
-        # A view of memory can't be pickled, and its bytes can.
+        # A memoryview can't be pickled, but bytes can.
         return tensor_held, (bytes_of(self.held), self.dims, self.truth)
 
     @property
     def values(self) -> List[int]:
-        """The values as a list, column-major; truth values are 0 and 1.
+        """The values as a list, in column-major order. Truth values are 0 and 1.
 
         >>> tensor([[1, 2], [3, 4]]).values
         [1, 3, 2, 4]
@@ -112,7 +112,8 @@ class Tensor(Expr):
         return found
 
     def nested(self) -> Any:
-        """The values as nested lists, x[i][j] at the index list (i, j); of no dims, the number.
+        """Returns the values as nested lists: the value at the index list (i, j) is `nested()[i][j]`. A
+        tensor without axes gives its one value. Truth values are of type bool.
 
         >>> run(tensor([[1, 2], [3, 4]]) + 1).nested(), tensor([True]).nested()
         ([[2, 3], [4, 5]], [True])
@@ -123,9 +124,10 @@ class Tensor(Expr):
     tolist = nested
 
     def __iter__(self) -> Iterator[Any]:
-        """The rows: of a list of numbers these, as numpy's where it is there, else tensors."""
+        """Iterates over the first axis: over values if it is the only axis, else over tensors. The
+        values are numpy's if numpy is installed. Raises TypeError for a tensor without axes."""
         if not self.dims:
-            raise TypeError("a tensor of no axes isn't gone over: x.item() is its value")
+            raise TypeError("a tensor without axes can't be iterated: x.item() is its value")
         if len(self.dims) == 1:
             return iter(self.nested() if numpy is None else self.array())
         rest, step = self.dims[1:], self.dims[0]
@@ -135,7 +137,9 @@ class Tensor(Expr):
         return value in self.values
 
     def item(self, *index: Any) -> int:
-        """The value of a tensor that has one, or the one at an index list, or at an offset of all.
+        """Returns the one value, as int or bool. Given one number, returns the value at this offset in C
+        order; given several, the value at this index list. Raises ValueError if no index is given and
+        the tensor doesn't have exactly one value.
 
         >>> run(tensor([1, 2]).sum()).item(), tensor(True).item(), tensor([[1, 2]]).item(0, 1)
         (3, True, 2)
@@ -143,13 +147,13 @@ class Tensor(Expr):
         if index:
             return (self if len(index) > 1 else self.ravel())[index].item()
         if len(self.own) != 1:
-            raise ValueError(f"{len(self.own)} values and not one")
+            raise ValueError(f"item() needs exactly one value, and there are {len(self.own)}")
         return self.own[0] != 0 if self.truth else self.own[0]
 
     def array(self) -> Any:
-        """The values as an array of numpy, x[i, j] at the index list (i, j): the tensor's own
-        memory, so that what is written into the array is written into the tensor. Of truth values
-        it is an array of bool, and a copy.
+        """Returns an int64 array of numpy with the tensor's dims. It has the tensor's own memory, so
+        writing into the array changes the tensor. Truth values give an array of dtype bool, which is a
+        copy. Raises ImportError without numpy.
 
         >>> run(tensor([[1, 2], [3, 4]]) + 1).array()
         array([[2, 3],
@@ -160,7 +164,7 @@ class Tensor(Expr):
         if self.truth:
             flat = numpy.asarray(self.own, dtype=numpy.int64) != 0
         elif isinstance(self.own, list):
-            # From here on the values stand in the array's memory.
+            # From here on the values are in the array's memory.
             flat = numpy.array(self.own, dtype=numpy.int64)
             self.own, self.shared = flat.data, True
         else:
@@ -177,13 +181,13 @@ class Tensor(Expr):
 
     @property
     def __array_interface__(self) -> Any:
-        # Who takes it keeps the tensor, and this the array.
+        # The borrower keeps the tensor alive, and `lent` keeps the array alive.
         self.lent = self.array()
         return self.lent.__array_interface__
 
 
 class Placeholder(Expr):
-    """An input without values, which a compiled expression takes at each call."""
+    """An input without values. A compiled function takes an array for it at each call."""
 
     __slots__ = ("name", "number")
 
@@ -196,7 +200,8 @@ class Placeholder(Expr):
 
 
 def placeholder(dims: Any = (), name: str = "") -> Placeholder:
-    """An input without values, of these dims, for `compile`.
+    """Returns an input of these dims, without values, for `compile`. A call of the compiled function can
+    name its array by `name`. Raises BadArgument for a size below 0, and TooLarge.
 
     >>> placeholder((2, 3), "x")
     <placeholder x, dims (2, 3)>
@@ -205,17 +210,22 @@ def placeholder(dims: Any = (), name: str = "") -> Placeholder:
 
 
 def tensor_held(values: bytes, dims: Sequence[int], truth: bool) -> Tensor:
-    """The tensor of these bytes of values: what is unpickled."""
+    """Returns the tensor of these bytes, 8 for each value. Unpickling calls it."""
     return Tensor(memory_of(values), dims, truth)
 
 
 def tensor(values: Any, dims: Optional[Sequence[int]] = None) -> Tensor:
-    """A tensor of an array, of nested lists, or of a number; or, where dims are given, of a list
-    of values that stands column-major.
+    """Returns a tensor of an array, of nested lists, or of a number. With `dims`, `values` is a flat
+    list in column-major order.
 
-    An array of int64 without gaps isn't copied, whatever the order of its axes: the tensor, and
-    each expression with it, has the values that stand in the array when it is run. Nor is what lies
-    in a buffer, or is lent by another library (`__array_interface__`, `__dlpack__`).
+    The tensor shares the memory of an int64 array without gaps, in C or Fortran order. This holds for
+    arrays of numpy, for buffers, and for memory that another library lends (`__array_interface__`,
+    `__dlpack__`). An expression reads the values that are in this memory when it runs. Other arrays and
+    lists are copied. An array or a list of bools gives truth values.
+
+    Raises TypeError for values that aren't whole numbers, OverflowError for numbers outside the range of
+    i64, ValueError for lists of different lengths, BadTensor if `values` doesn't fit `dims`, and
+    TooLarge.
 
     >>> tensor([1, 4, 2, 5, 3, 6], dims=(2, 3)).nested()
     [[1, 2, 3], [4, 5, 6]]
@@ -241,8 +251,8 @@ def tensor(values: Any, dims: Optional[Sequence[int]] = None) -> Tensor:
 
 
 def array_of(values: Any) -> Any:
-    """An array of numpy over what lies in memory, where it lies: an array, a buffer, or what
-    another library lends. None where that is nothing of the kind."""
+    """Returns an array of numpy over the memory of an array, of a buffer, or of an object that another
+    library lends. Returns None for other objects, and without numpy."""
     if numpy is None:
         return None
     if isinstance(values, (numpy.ndarray, numpy.generic)):
@@ -255,7 +265,7 @@ def array_of(values: Any) -> Any:
 
 
 def an_expr(value: Any) -> Expr:
-    """A value as an expression; a list in which expressions stand is one of them all.
+    """Returns a value as an expression. A list that contains expressions becomes one, by `stack`.
 
     >>> an_expr([tensor([1, 2]).sum(), 7]).dims
     (2,)
@@ -271,7 +281,7 @@ def an_expr(value: Any) -> Expr:
 
 
 def full(dims: Union[int, Sequence[int]], value: int) -> Expr:
-    """A tensor of these dims with this value at every place; the request has it once.
+    """Returns an expression of these dims with one value at every place. A request has the value once.
 
     >>> full((2, 3), 7)
     <broadcast, dims (2, 3), 2 nodes>
@@ -284,7 +294,8 @@ def full(dims: Union[int, Sequence[int]], value: int) -> Expr:
 
 
 def beside(value: Any, expr: Expr) -> Expr:
-    """What stands beside an expression as an expression: a number has its dims at every place."""
+    """Returns the other operand of an operation on `expr` as an expression. A number becomes an
+    expression with the dims of `expr` and this number at every place."""
     if isinstance(value, Expr):
         return value
     if isinstance(value, LISTS) or getattr(value, "shape", None):
@@ -296,7 +307,7 @@ def beside(value: Any, expr: Expr) -> Expr:
 
 
 def where(condition: Any, x: Any, y: Any) -> Expr:
-    """x where the condition isn't 0, else y.
+    """Returns x where the condition isn't 0, and y elsewhere. Dims are broadcast as in numpy.
 
     >>> run(where(tensor([1, 5]) < 4, 10, -1)).values
     [10, -1]

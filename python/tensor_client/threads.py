@@ -1,4 +1,4 @@
-"""How many parts of an answer are worth it, which the threads of the library's pool compute."""
+"""Into how many parts an answer is cut, which the threads of the library's pool compute."""
 
 from __future__ import annotations
 
@@ -8,19 +8,19 @@ from .expressions import Expr
 from .rewriting.mirrored import REDUCTIONS
 from .rules import product
 
-# How many values a part has at least if the expression has up to FOLD nodes, and an answer of two such
-# parts. If it has more nodes, a part may have fewer values. An operation with a number has three nodes.
+# The fewest values of a part if the expression has up to FOLD nodes, and of an answer in two such parts. A
+# part of an expression with more nodes may have fewer values. An operation with a number has three nodes.
 LEAST, FOLD = 1 << 15, 12
 FEWEST = 2 * LEAST
 
-# What combines many values of its operand into one.
+# Operations that combine many values of the operand into one.
 COMBINED = frozenset(REDUCTIONS).union(("argmax", "argmin"))
 
 
 def parts_worth(expr: Expr, size: int, workers: int, shared: Callable[[], int]) -> int:
-    """Returns into how many parts an answer of `size` values is cut, at most one for each worker.
-    A part takes no less work than what it computes again. `shared` returns how many values that is;
-    it is called if several parts may be worth it.
+    """Returns into how many parts to cut an answer of `size` values, at most one for each worker. Each
+    part has at least as much work of its own as it repeats of the others. `shared` returns how much it
+    repeats, and is called only if there may be several parts.
 
     >>> parts_worth(tensor([1, 2]) + 1, 2, 4, lambda: 0)
     1
@@ -37,7 +37,7 @@ def parts_worth(expr: Expr, size: int, workers: int, shared: Callable[[], int]) 
 
 
 def combined(expr: Expr) -> int:
-    """How many values a value of a reduction, an argmax or an argmin is made of; 1 of others.
+    """Returns how many values one value of a reduction, an argmax or an argmin combines; 1 for others.
 
     >>> x = tensor([[1, 2, 3], [4, 5, 6]])
     >>> combined(x.sum(axis=1)), combined(x.argmax(axis=0)), combined(x.cumsum(axis=0))
@@ -49,7 +49,7 @@ def combined(expr: Expr) -> int:
 
 
 def products(expr: Expr) -> int:
-    """How many products a value of a contraction or a convolution is the sum of; 1 of others.
+    """Returns how many products one value of a contraction or a convolution sums; 1 for others.
 
     >>> products(tensor([[1, 2, 3]]) @ tensor([1, 2, 3])), products(tensor([1, 2]) * 3)
     (3, 1)

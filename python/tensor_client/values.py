@@ -1,4 +1,4 @@
-"""Which Python and numpy values are whole numbers of the i64 range, and how lists of them nest."""
+"""Which values of Python and numpy a tensor can have, and how they nest in lists."""
 
 from __future__ import annotations
 
@@ -13,17 +13,18 @@ except ImportError:
     numpy = None  # type: ignore[assignment]
 
 LEAST, GREATEST = -(2**63), 2**63 - 1
-# What is the same of numbers with a sign and without one.
+# Operations that give the same bits for signed and unsigned numbers.
 WRAPPING = frozenset("add sub mul eq ne bit_and bit_or bit_xor __and__ __or__ __xor__".split())
 LISTS = (list, tuple, range, packed)
-# What stands in lists as it is: values, and lists.
+# The types that lists contain as they are: values, and lists.
 PLAIN = {int, bool, list, tuple}
 
 Kind = TypeVar("Kind")
 
 
 class NumpysOwn(TypeError, ValueError):
-    """What tensors don't have and numpy's arrays do, as fractions: its own functions take it."""
+    """Values that arrays of numpy can have and tensors can't, such as fractions. numpy's own functions
+    take them."""
 
 
 def is_bool(value: Any) -> bool:
@@ -31,7 +32,7 @@ def is_bool(value: Any) -> bool:
 
 
 def value_of(value: Any) -> int:
-    """A value of a tensor: a whole number of the i64 range, or a truth value, as 0 or 1.
+    """Returns a value of a tensor, a whole number in the range of i64 or a truth value, as int.
 
     >>> value_of(True), value_of(-5)
     (1, -5)
@@ -40,36 +41,37 @@ def value_of(value: Any) -> int:
 
 
 def whole(value: Any) -> int:
-    """A whole number of the i64 range, as an argument: no truth value, no float."""
+    """Returns a whole number in the range of i64 as int. Raises TypeError for a bool or a float, and
+    OverflowError outside the range."""
     if type(value) is int and LEAST <= value <= GREATEST:
         return value
     if is_bool(value):
-        raise TypeError("a bool is no number here")
+        raise TypeError("a number is wanted here, and not a bool")
     try:
         number = operator.index(value)
     except TypeError:
         kind = NumpysOwn if isinstance(value, Number) else TypeError
-        raise kind(f"no whole number: {value!r:.60}") from None
+        raise kind(f"not a whole number: {value!r:.60}") from None
     if not LEAST <= number <= GREATEST:
-        raise OverflowError("a whole number past the range of i64, -2**63 to 2**63 - 1")
+        raise OverflowError("a whole number outside the range of i64, -2**63 to 2**63 - 1")
     return number
 
 
 def as_bits(value: Any) -> Any:
-    """Numbers of uint64 as those of int64 that have their bits; others as they are."""
+    """Returns values of dtype uint64 as int64 with the same bits, and other values as they are."""
     is_unsigned = numpy is not None and getattr(value, "dtype", None) == numpy.uint64
     return value.astype(numpy.int64) if is_unsigned else value
 
 
 def flag(value: Any) -> bool:
-    """A truth value, which a number is not."""
+    """Returns a truth value as bool. Raises TypeError for a number."""
     if is_bool(value):
         return bool(value)
     raise TypeError(f"neither True nor False: {value!r:.60}")
 
 
 def is_several(value: Any) -> bool:
-    """Whether a value is several, as lists and arrays are, and not one.
+    """Whether a value is a list or an array with axes, and not one number.
 
     >>> is_several([2]), is_several(2), is_several(tensor(2))
     (True, False, False)
@@ -79,7 +81,7 @@ def is_several(value: Any) -> bool:
 
 
 def numbers_of(value: Any) -> List[int]:
-    """Whole numbers that are given as a list, or one alone.
+    """Returns whole numbers as a list, given a list or one number.
 
     >>> numbers_of((2, 3)), numbers_of(2)
     ([2, 3], [2])
@@ -88,7 +90,7 @@ def numbers_of(value: Any) -> List[int]:
 
 
 def listed(items: Sequence[Any], kind: Callable[[Any], Kind]) -> List[Kind]:
-    """A list of arguments that was given as one list, or one after another.
+    """Returns arguments as a list. They are given as one list, or one after another.
 
     >>> listed([2, 3], whole) == listed([(2, 3)], whole)
     True
@@ -99,7 +101,7 @@ def listed(items: Sequence[Any], kind: Callable[[Any], Kind]) -> List[Kind]:
 
 
 def checked(values: Iterable[Any]) -> List[int]:
-    """A list of values, each of the i64 range."""
+    """Returns the values of a tensor as a list of int. Raises TypeError and OverflowError."""
     found = list(values)
     if set(map(type, found)) <= {int} and (
         not found or (LEAST <= min(found) and max(found) <= GREATEST)
@@ -113,8 +115,7 @@ def are_bools(values: Sequence[Any]) -> bool:
 
 
 def checked_array(array: Any) -> Any:
-    """An array whose values are whole numbers of the i64 range, or truth values; others are
-    refused, with what to do about them."""
+    """Returns an array of i64 numbers or of bools. Raises TypeError or OverflowError for others."""
     kind = array.dtype.kind
     if kind == "i" and type(array) is numpy.ndarray:
         return array
@@ -135,11 +136,11 @@ def checked_array(array: Any) -> Any:
 
 
 class Unanswered(TypeError):
-    """An expression stands among values, and has none yet."""
+    """An expression among values, which has no values yet."""
 
 
 def opened(value: Any) -> Any:
-    """An array, a tensor or what else gives its values as lists, as these; others as they are."""
+    """Returns the values of an array or a tensor as lists, and other values as they are."""
     if getattr(value, "operands", ()):
         raise Unanswered("an expression has no values yet: stack([..]) puts some together")
     if numpy is not None and isinstance(value, (numpy.ndarray, numpy.generic)):
@@ -148,8 +149,9 @@ def opened(value: Any) -> Any:
 
 
 def unnested(values: Any) -> Tuple[List[int], List[Any]]:
-    """The dims and the values, column-major, of nested lists, in which arrays may stand: each round
-    goes one axis deeper, the earlier axes faster.
+    """Returns the dims of nested lists, which may contain arrays, and their values in column-major
+    order. Each round goes one axis deeper, with the earlier axes faster. Raises ValueError for lists of
+    different lengths.
 
     >>> unnested([[1, 2, 3], [4, 5, 6]])
     ([2, 3], [1, 4, 2, 5, 3, 6])
@@ -168,7 +170,7 @@ def unnested(values: Any) -> Tuple[List[int], List[Any]]:
 
 
 def nested(values: Sequence[int], dims: Tuple[int, ...]) -> Any:
-    """Values that stand column-major as nested lists; of no dims, the one value.
+    """Returns values in column-major order as nested lists; without dims, the one value.
 
     >>> nested([1, 4, 2, 5, 3, 6], (2, 3))
     [[1, 2, 3], [4, 5, 6]]

@@ -1,5 +1,4 @@
-"""numpy's ways with expressions, each made of operations of the request: shapes, and the parts that
-an index names."""
+"""numpy's ways to use arrays, for expressions: their dims, their values, and their parts by index."""
 
 from __future__ import annotations
 
@@ -20,7 +19,7 @@ if TYPE_CHECKING:
 
 
 class NumpyWays(Operators):
-    """What an expression has as numpy's arrays have it. Expr has the request's own operations."""
+    """Attributes and methods of numpy's arrays. Expr has the request's own operations."""
 
     __slots__ = ()
 
@@ -29,20 +28,20 @@ class NumpyWays(Operators):
     else:
 
         def __getattr__(self, name: str) -> Any:
-            """What numpy's arrays have and expressions haven't, of the array of the values."""
+            """Returns what numpy's arrays have and expressions don't, of the array of the values."""
             if name.startswith("_"):
                 raise AttributeError(name)
             from .functions.delegated import method_of
 
             return method_of(self, name)
 
-    # Where the values lie, and whose functions take them, by the array API's names.
+    # The device of the values, and the module of their functions, as the array API names them.
     device = "cpu"
 
     def __array_namespace__(self, api_version: Any = None) -> Any:
         return sys.modules[__package__ or ""]
 
-    # What numpy asks, with an expression among what its functions are given.
+    # numpy calls these if an argument of its function is an expression.
 
     def __array_ufunc__(self, function: Any, method: str, *inputs: Any, **more: Any) -> Any:
         from .functions.protocols import of_ufunc
@@ -58,7 +57,7 @@ class NumpyWays(Operators):
 
     @property
     def shape(self) -> Dims:
-        """The dims, by numpy's name.
+        """The dims, by numpy's name. Raises ValueError if they aren't known.
 
         >>> tensor([[1, 2, 3], [4, 5, 6]]).shape
         (2, 3)
@@ -69,7 +68,7 @@ class NumpyWays(Operators):
 
     @property
     def ndim(self) -> int:
-        """How many axes there are.
+        """The number of axes.
 
         >>> tensor([[1, 2, 3], [4, 5, 6]]).ndim
         2
@@ -78,7 +77,7 @@ class NumpyWays(Operators):
 
     @property
     def size(self) -> int:
-        """How many places there are.
+        """The number of values.
 
         >>> tensor([[1, 2, 3], [4, 5, 6]]).size
         6
@@ -87,7 +86,7 @@ class NumpyWays(Operators):
 
     @property
     def T(self) -> Expr:
-        """The axes from the last to the first.
+        """The expression with its axes in reverse order.
 
         >>> run(tensor([[1, 2, 3], [4, 5, 6]]).T).nested()
         [[1, 4], [2, 5], [3, 6]]
@@ -98,7 +97,7 @@ class NumpyWays(Operators):
 
     @property
     def mT(self) -> Expr:
-        """The last two axes in each other's place.
+        """The expression with its last two axes swapped.
 
         >>> run(tensor([[1, 2, 3], [4, 5, 6]]).mT).nested()
         [[1, 4], [2, 5], [3, 6]]
@@ -108,7 +107,7 @@ class NumpyWays(Operators):
         return matrix_transpose(self)
 
     def transpose(self, *axes: Any) -> Expr:
-        """The axes in this order, or from the last to the first.
+        """Returns the expression with its axes in this order; without arguments, in reverse order.
 
         >>> tensor([[[1, 2, 3]]]).transpose(2, 0, 1).shape
         (3, 1, 1)
@@ -117,15 +116,15 @@ class NumpyWays(Operators):
 
     def __len__(self) -> int:
         if not self.shape:
-            raise TypeError("a tensor of no axes has no length")
+            raise TypeError("a tensor without axes has no length")
         return self.shape[0]
 
-    # What asks for values runs the expression, anew each time: an array that it is made of may have
-    # been written meanwhile.
+    # Methods that need values run the expression each time, since its arrays may have been written into
+    # meanwhile.
 
     def __bool__(self) -> bool:
         if self.size != 1:
-            raise TypeError(f"dims {self.shape} are neither true nor false: all() or any() of them")
+            raise TypeError(f"dims {self.shape} have no truth value: use all() or any()")
         return bool(self.item())
 
     def __int__(self) -> int:
@@ -135,9 +134,9 @@ class NumpyWays(Operators):
         return float(self.item())
 
     def __index__(self) -> int:
-        """The one number of no axes. Others are lists where numpy asks for an index."""
+        """Returns the value of an expression without axes. numpy takes others as lists."""
         if self.shape or self.truth:
-            raise TypeError("an index is a whole number of no axes, and no truth value")
+            raise TypeError("an index is a whole number without axes, and no truth value")
         return self.item()
 
     def __str__(self) -> str:
@@ -147,18 +146,19 @@ class NumpyWays(Operators):
         return format(self.item(), form) if form else str(self)
 
     def item(self, *index: Any) -> int:
-        """The value of an expression that has one, or the one at an index; it is run for it.
+        """Runs the expression, and returns its one value, or the value at an index. Raises ValueError if
+        no index is given and there isn't exactly one value.
 
         >>> tensor([1, 2]).sum().item(), int(tensor([1, 2]).max())
         (3, 2)
         """
         if self.size != 1 and not index:
-            raise ValueError(f"{self.size} values and not one")
+            raise ValueError(f"item() needs exactly one value, and there are {self.size}")
         found: int = self._answered().item(*index)
         return found
 
     def tolist(self) -> Any:
-        """The values as nested lists; an expression is run for them.
+        """Runs the expression, and returns its values as nested lists.
 
         >>> (tensor([[1, 2], [3, 4]]) + 1).tolist()
         [[2, 3], [4, 5]]
@@ -175,11 +175,11 @@ class NumpyWays(Operators):
         return self._answered().__array__(dtype, copy)
 
     def __setitem__(self, index: Any, value: Any) -> NoReturn:
-        raise TypeError("a tensor isn't written: x.at[i].set(v) is one with other values")
+        raise TypeError("a tensor isn't written into: x.at[i].set(v) returns one with other values")
 
     @property
     def at(self) -> Places:
-        """x.at[i].set(v) and x.at[i].add(v): a tensor with other values where x[i] is.
+        """x.at[i].set(v) and x.at[i].add(v) return an expression with other values where x[i] is.
 
         >>> run(tensor([[1, 2], [3, 4]]).at[:, 0].set(0)).nested()
         [[0, 2], [0, 4]]
@@ -188,7 +188,7 @@ class NumpyWays(Operators):
 
         return Places(self)  # type: ignore[arg-type]
 
-    # What others take values by, where they lie.
+    # Other libraries take the values by these, without a copy.
 
     def __dlpack__(self, **more: Any) -> Any:
         return self._answered().array().__dlpack__(**more)
@@ -200,8 +200,8 @@ class NumpyWays(Operators):
         return memoryview(self._answered().array())
 
     def reshape(self, *sizes: Any, order: str = "C") -> Expr:
-        """The same values in other dims, one of which may be -1, what is left: by numpy's order,
-        the last axis fastest, or by order="F", the request's own, the first axis fastest.
+        """Returns the values in other dims, in C order, or with order="F" in column-major order, which
+        is the request's own. One size may be -1. Raises ShapeMismatch for another number of places.
 
         >>> run(tensor([[1, 2], [3, 4], [5, 6]]).reshape(2, -1)).nested()
         [[1, 2, 3], [4, 5, 6]]
@@ -213,12 +213,12 @@ class NumpyWays(Operators):
             raise ValueError(f'order is "C" or "F" and not {order!r}')
         long, wanted = ([it for it in dims if it != 1] for dims in (self.shape, to))
         if long == wanted:
-            # Axes of one place come or go: both orders are the same.
+            # Only axes of length 1 are added or removed: both orders agree.
             return self.in_dims(to)
         return self.T.in_dims(to[::-1]).T
 
     def ravel(self, order: str = "C") -> Expr:
-        """The values along one axis.
+        """Returns the values along one axis, in C order, or with order="F" in column-major order.
 
         >>> x = tensor([[1, 2], [3, 4]])
         >>> run(x.ravel()).values, run(x.ravel(order="F")).values
@@ -229,19 +229,19 @@ class NumpyWays(Operators):
     flatten = ravel
 
     def _sizes(self, sizes: List[int]) -> List[int]:
-        """Sizes that have the places there are, in which one -1 is what is left of them."""
+        """Returns sizes with the number of places that there are. One -1 is computed."""
         if self.dims is None:
             return rules.sizes(sizes)
         found, others = sizes, rules.product([it for it in sizes if it != -1])
         if sizes.count(-1) == 1 and others > 0:
             found = [self.size // others if it == -1 else it for it in sizes]
         if rules.product(rules.legal(rules.sizes(found))) != self.size:
-            raise ShapeMismatch(f"{self.size} places of dims {self.dims} in dims {tuple(sizes)}")
+            raise ShapeMismatch(f"the {self.size} places of dims {self.dims} don't fit dims {tuple(sizes)}")
         return found
 
     def __getitem__(self, index: Any) -> Expr:
-        """The part that numpy's x[..] is: whole numbers, slices with steps of either sign, None,
-        `..`, lists of offsets, and lists of truth values that are there.
+        """Returns the part that numpy's x[..] names, by whole numbers, slices with steps of either sign,
+        None, `..`, lists of offsets, and lists of truth values, which run. Raises OutOfRange.
 
         >>> run(tensor([[1, 2, 3], [4, 5, 6]])[::-1, 1:]).nested()
         [[5, 6], [2, 3]]

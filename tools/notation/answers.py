@@ -1,4 +1,4 @@
-"""Answers of the definitions: the line for a text or a frame, and the place of a fault."""
+"""The answers of the definitions: the line for a text or a frame, and the place of a fault."""
 
 import functools
 
@@ -16,34 +16,34 @@ class Answers:
 
     def __init__(self):
         self.running = Running()
-        # A text that was just read isn't read again to find the place of its fault.
+        # The last text is kept, so that finding the place of its fault doesn't read it again.
         self.running.changed(REQUEST_AT, functools.lru_cache(1))
         for it in (OF_FRAME, LINE_OF, ANSWER_OF, ANSWER_FROM, SHAPE_OF):
             self.running.code(self.running.item(it))
 
     def line(self, text):
-        """The line that answers a text."""
+        """Returns the line that answers a text."""
         return bytes(self.running.of(LINE_OF, self.running.of(ANSWER_OF, tuple(text))))
 
     def line_of_frame(self, header, values):
-        """The line of what answers a frame."""
+        """Returns the line for the answer to a frame."""
         request = self.running.of(OF_FRAME, tuple(header), tuple(values))
         return bytes(self.running.of(LINE_OF, self.running.of(ANSWER_FROM, request)))
 
     def place(self, text):
-        """The steps to the first fault of a text, names and indices; none where it has no fault."""
+        """Returns the steps to the first fault of a text, as names and indices; None without a fault."""
         kind, found = self.running.of(REQUEST_AT, tuple(text))
         if kind == "Ok":
             return None
         return [bytes(it).decode() if step == "field" else it for step, it in found["place"]]
 
     def dims(self, text):
-        """The dims of the tensor that a text without a fault asks for."""
+        """Returns the dims of the tensor that a text without a fault asks for."""
         asked = self.running.of(REQUEST_AT, tuple(text))[1]
         return list(self.running.of(SHAPE_OF, asked["term"], asked["inputs"]))
 
     def cases(self):
-        """The cases of this repository's definitions: the item of each, its number, its line, and
+        """Yields the cases of this repository's definitions: the item of each, its number, its line, and
         how often it has answered."""
         for case, count in zip(self.running.cases, self.running.counts):
             if case[0].module.is_ours:

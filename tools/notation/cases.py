@@ -20,33 +20,33 @@ IF, PAIR = ("name", ("if◌then◌else◌",)), ("name", ("◌,◌",))
 
 
 class Reader:
-    """Reads the words of a case from the left, and behind them the end, which is none."""
+    """Reads the words of a case from the left. After the last word comes None."""
 
     def __init__(self, words):
         self.text, self.words = " ".join(words), iter(words)
         self.next = next(self.words)
 
     def take(self, *wanted):
-        """The next word, which has to be one of those that are wanted, where any are."""
+        """Returns the next word. If words are wanted, it has to be one of them."""
         word, self.next = self.next, next(self.words, None)
         if wanted and word not in wanted:
             raise ValueError(f"{word} in {self.text}")
         return word
 
     def behind(self, word):
-        """The term behind a word."""
+        """Returns the term after a word."""
         self.take(word)
         return self.term()
 
     def case(self, name):
-        """The patterns and the term of a case."""
+        """Returns the patterns and the term of a case."""
         self.take(name)
         patterns, body = self.atoms(), self.behind("=")
         self.take(None)
         return patterns, body
 
     def term(self, least=0):
-        """A term, of which each operation binds as tightly as that at least."""
+        """Returns a term whose operations bind at least this tightly."""
         head, *arguments = self.atoms() or self.take("a term")
         left = ("call", head, tuple(arguments)) if arguments else head
         while BINDS.get(self.next, -1) >= least:
@@ -56,14 +56,14 @@ class Reader:
         return left
 
     def atoms(self):
-        """Patterns or arguments."""
+        """Returns patterns or arguments."""
         found = []
         while self.next not in ENDS and self.next not in BINDS:
             found.append(self.atom())
         return found
 
     def atom(self):
-        """A term that is one word, or goes by a word or a bracket in front of it."""
+        """Returns a term that is one word, or that begins with a word or a bracket."""
         word = self.take()
         if word[0] == '"' or word[0].isdigit():
             return "value", ast.literal_eval(word)
@@ -83,17 +83,18 @@ class Reader:
         return term
 
     def function(self):
-        """What takes its names one after the other."""
+        """Returns a function, which takes its names one after the other."""
         name = self.take()
         return "function", name, self.behind(".") if self.next == "." else self.function()
 
     def bracket(self):
-        """A term, or a pair, whose second part may be a pair as well, up to the bracket's end."""
+        """Returns a term or a pair, up to the end of the bracket. The second part of a pair may be a
+        pair too."""
         term = self.term()
         return term if self.take(",", ")") == ")" else ("call", PAIR, (term, self.bracket()))
 
     def record(self):
-        """A record, or one like a term but for these parts."""
+        """Returns a record, or a changed copy of one."""
         base, fields = None if self.next == "{" else self.atom(), []
         self.take("{")
         while self.next != "}":
@@ -106,8 +107,8 @@ class Reader:
 
 @functools.lru_cache(None)
 def cases_of(item):
-    """The cases of a definition: the line of each, its patterns and its term."""
-    # What the modules around it take is taken first.
+    """Returns the cases of a definition: the line of each, its patterns and its term."""
+    # The parameters of the modules around it come first.
     above = [("name", (name,)) for name, _ in item.section]
     read = [(it[0][0], *Reader(words_of(it)).case(item.name)) for it in item.chunks[1:]]
     if not read:

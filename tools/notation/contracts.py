@@ -21,12 +21,12 @@ class Clause:
         self.lines = lines
 
     def text(self):
-        """The clause as it stands, moved to the left."""
+        """Returns the lines of the clause, moved to the left."""
         indent = len(self.lines[0]) - len(self.lines[0].lstrip())
         return [it[min(indent, len(it) - len(it.lstrip())) :] for it in self.lines]
 
     def uses(self):
-        """What the names of the clause stand for, but for those of the code."""
+        """Returns what the names of the clause stand for, except names of the code."""
         scan = Scan(self.source, [])
         words = words_of(enumerate(self.lines))
         scan.words(words[words.index("{") :])
@@ -34,7 +34,7 @@ class Clause:
 
 
 class Source(Module):
-    """A file of src/, with what its lines `ghost use` bring in."""
+    """A file of src/, with the names that its lines `ghost use` import."""
 
     def take_up(self):
         for line in self.text:
@@ -43,7 +43,7 @@ class Source(Module):
                 self.bring_in(words_of([(0, brought[1])]))
 
     def clauses(self):
-        """The clauses of its public functions, of its traits' functions, and ghost members."""
+        """Yields the clauses of public functions and of functions of traits, and ghost members."""
         within, function, at = "", None, 0
         while at < len(self.text):
             line = self.text[at]
@@ -62,12 +62,12 @@ class Source(Module):
                     yield Clause(self, named, clause[1], clause[2], self.text[at : end + 1])
                 at = end
             elif function and line.strip() == "{" or line.startswith("}"):
-                # Behind it stands a body, which may have closures with clauses of their own.
+                # A body follows, which may have closures with clauses of their own.
                 function = None
             at += 1
 
     def end_of(self, at):
-        """The line in which the brace that opens first on a line is closed."""
+        """Returns the line that closes the first brace of a line."""
         depth = 0
         for end in range(at, len(self.text)):
             depth += self.text[end].count("{") - self.text[end].count("}")
@@ -77,6 +77,6 @@ class Source(Module):
 
 
 def sources_of(crate):
-    """The files of a crate's src/, in order."""
+    """Returns the files of a crate's src/, in order."""
     paths = files_in(os.path.join(CRATES, crate), "src")
     return [Source(os.path.relpath(it, CRATES), it) for it in paths]

@@ -5,22 +5,23 @@ import re
 from crates import CRATES
 
 WORD = re.compile(r'"(?:[^"\\]|\\.)*"|[(){};,]|[^\s(){};,"]*[^\s(){};,".]|\.')
-# A comment, or a string, in which two dashes begin none.
+# A comment; or a string, in which two dashes begin no comment.
 COMMENT = re.compile(r'("(?:[^"\\]|\\.)*")|(?:^|(?<=\s))--(?=\s|$).*')
 MODIFIERS = ("abbrev", "unfoldable", "pub")
 # How a definition begins, word by word; any other line is a case of the last one.
 SIGNATURE = re.compile(r"\S+ (\{[^{}]*\} )?: ")
-# Lines that say nothing of a meaning.
+# Lines without a meaning of their own.
 SILENT = ("mod", "open", "infix", "infixl", "infixr", "unfolding")
 
 
 def words_of(chunk):
-    """The words of numbered lines. A name is one word with all that its dots lead to."""
+    """Returns the words of numbered lines. A name is one word, with the names after its dots."""
     return [word for _, line in chunk for word in WORD.findall(line)]
 
 
 def chunks_of(lines):
-    """Lines in chunks: what stands further right, or closes a bracket, goes with those above."""
+    """Returns lines in chunks. A line that is indented further, or closes a bracket, belongs to the
+    lines above."""
     chunks = []
     for at, line in lines:
         indents = [len(it) - len(it.lstrip()) for it in (line, lines[0][1])]
@@ -31,12 +32,12 @@ def chunks_of(lines):
 
 
 def head_of(chunk):
-    """How many lines of a chunk go to the word `where`."""
+    """Returns how many lines of a chunk there are up to the word `where`."""
     return 1 + next(at for at, (_, line) in enumerate(chunk) if line.split()[-1] == "where")
 
 
 def parameters(words):
-    """How many arguments a constructor of this type takes, without those in braces."""
+    """Returns how many arguments a constructor of this type takes, without arguments in braces."""
     text, last = re.sub(r"\{[^{}]*\} →", "", " ".join(words)), ""
     while text != last:
         last = text
@@ -55,26 +56,26 @@ class Item:
 
 
 class Module:
-    """A file, read as far as the chunks that its lines are."""
+    """A file, read as far as the chunks of its lines."""
 
     def __init__(self, path, file):
         self.path, self.file = path, file
         # Whether it is a file of this repository, and not of the kit.
         self.is_ours = file.startswith(f"{CRATES}/")
         self.items, self.constructors, self.aliases = {}, {}, {}
-        # No file brings in the value of `Unit`, and what makes a pair.
+        # No file imports the value of `Unit` and the constructor of pairs.
         self.opened = {"tt": ("Prim", "tt"), "◌,◌": ("Prim", "◌,◌")}
         with open(file, encoding="utf-8") as text:
             self.text = text.read().split("\n")
         self.take_up()
 
     def take_up(self):
-        """Takes up what the text says, without comments and empty lines."""
+        """Reads the text, without comments and empty lines."""
         lines = [COMMENT.sub(lambda it: it[1] or "", line).rstrip() for line in self.text]
         self.read([it for it in enumerate(lines, 1) if it[1]], [])
 
     def read(self, lines, section):
-        """Takes up what some lines define, inside of modules that have these parameters."""
+        """Reads the definitions in some lines, inside modules with these parameters."""
         last = None
         for chunk in chunks_of(lines):
             words = words_of(chunk)
@@ -101,7 +102,7 @@ class Module:
                 last.chunks.append(chunk)
 
     def bring_in(self, words):
-        """A line `use`: of some names of a module, or of a module under a name of its own."""
+        """Reads a line `use`: of some names of a module, or of a module with a name of its own."""
         path, names = words[0].replace(".TheVariants", ""), " ".join(words[3:-1]).split(",")
         if "{" in words:
             named = [it.split() for it in names if it.strip()]

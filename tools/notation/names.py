@@ -11,7 +11,7 @@ from crates import CRATES, kit
 from .modules import Item, Module
 from .primitives import PRIMITIVES
 
-# Where the files of a path stand that begins so: here, and in the folder of the kit.
+# By the first part of a path, the folders of its files: here, and in the kit.
 ROOTS = {
     "Rattle": [CRATES, "rattle"],
     "lib": ["rattle/logic/Lib"],
@@ -34,7 +34,7 @@ class Declared(Module):
 
 
 def file_of(first, *within):
-    """The file of a module, or of a type of the code, where it has one."""
+    """Returns the file of a module, or of a type of the code, or None."""
     ends = [".antt"]
     if "declared" in within:
         within, ends = [within[0], "src", *within[3:-1]], [".rt", "/mod.rt"]
@@ -44,11 +44,11 @@ def file_of(first, *within):
 
 @functools.lru_cache(None)
 def module_of(path):
-    """The module of a path, which is empty where there is no file of it."""
+    """Returns the module of a path. It is empty if it has no file."""
     parts = path.split(".")
     file, lib = file_of(*parts), [*parts[:3], "Lib"]
     if file is None and parts[3:] and file_of(*lib):
-        # It may be one that specs/Lib of a crate passes on.
+        # specs/Lib of a crate may re-export it.
         passed = module_of(".".join(lib)).aliases.get(parts[3])
         if passed:
             return module_of(".".join([passed, *parts[4:]]))
@@ -56,8 +56,8 @@ def module_of(path):
 
 
 def resolve(module, name):
-    """What a name of a module is: ("primitive", its path), ("constructor", its name, data type,
-    arguments), ("item", item), or none."""
+    """Returns what a name of a module is: ("primitive", its path), ("constructor", its name, data type,
+    arguments), ("item", item), or None."""
     whole = f"{module.path}.{name}"
     if whole in PRIMITIVES:
         return "primitive", whole
@@ -70,10 +70,9 @@ def resolve(module, name):
 
 
 def lookup(module, parts):
-    """What the name is that these parts begin with, as it stands in a module, and the parts that
-    are behind it."""
+    """Returns what the first of these parts name in a module, and the parts after them."""
     name, *behind = parts
-    # Behind a dot stands what a module has that goes by a name here, or a variant of a type.
+    # After a dot comes an item of a module that has a name here, or a variant of a type.
     path = module.aliases.get(name) or module.opened.get(name, [None])[0]
     found = resolve(module_of(path), behind[0]) if path and behind else None
     if found and (name in module.aliases or found[0] == "constructor"):

@@ -1,10 +1,10 @@
 """docs/HEADLINE.md: the clauses of the headline and the definitions that they rest on, in chapters.
 
-headline.md, beside this file, has the text. Words in braces are replaced:
-{clause CRATE FUNCTION NAME} by a clause, word for word; {first} and {second} by the definitions on
-which that clause rests; {definitions CRATE/FILE.. CRATE/FILE.NAME..} by these definitions, each after
-those that it uses; {types NAME..} by types of the code; {line CRATE/FILE.NAME: TEXT} gives a
-definition a plain line, if its file has none.
+headline.md, beside this file, has the text. Words in braces are replaced: {clause CRATE FUNCTION NAME}
+by a clause, word for word; {first} and {second} by the definitions on which that clause rests;
+{definitions CRATE/FILE.. CRATE/FILE.NAME..} by these definitions, each after the definitions that it
+uses; and {types NAME..} by types of the code. {line CRATE/FILE.NAME: TEXT} gives a definition a plain
+line, if its file has none.
 """
 
 import os
@@ -20,17 +20,17 @@ GHOST = re.compile(r" +(?:// |ghost (?!use))")
 
 
 class Unprinted(Exception):
-    """What the page would leave out or can't find."""
+    """Something that the page would leave out or can't find."""
 
 
 def key_of(item):
-    """A definition as the page's words name it: its crate and its file, and its name there."""
+    """Returns a definition as the page names it: its crate and its file, and its name there."""
     _, crate, _, *within = item.module.path.split(".")
     return f"{crate}/{'/'.join(within)}", item.name
 
 
 def line_above(item):
-    """The comment above a definition in its file."""
+    """Returns the comment above a definition in its file."""
     first, found = item.chunks[0][0][0] - 1, []
     while item.module.text[first - 1].strip().startswith("-- "):
         first -= 1
@@ -39,7 +39,8 @@ def line_above(item):
 
 
 def type_of_code(item):
-    """A type as the code has it: without attributes, and of a trait its ghost members alone."""
+    """Returns a type as the code has it, without attributes. Of a trait it returns only the ghost
+    members."""
     lines = item.module.text
     heads = [OPENED.match(it) for it in lines]
     first = next(at for at, it in enumerate(heads) if it and it[2] == item.name)
@@ -59,7 +60,7 @@ def block(lines):
 
 
 class Page:
-    """What is put in place of the words in braces."""
+    """The text that replaces the words in braces."""
 
     def __init__(self, find):
         self.find = find
@@ -82,7 +83,7 @@ class Page:
         return (found[1], found[2]) if found else ("", "")
 
     def rest(self, clause):
-        """Takes up what a clause rests on."""
+        """Adds the definitions on which a clause rests."""
         before = len(self.closure.items)
         for it in clause.uses():
             self.closure.add(*it)
@@ -91,7 +92,7 @@ class Page:
         self.halves.append(f"{len(new)} definitions in {count} lines")
 
     def definition(self, item):
-        """A definition with its plain line above it."""
+        """Returns a definition with its plain line above it."""
         key, lines = ".".join(key_of(item)), line_above(item)
         if key in self.plain:
             lines = [f"-- {it}" for it in textwrap.wrap(self.plain[key], 95)]
@@ -99,13 +100,13 @@ class Page:
             self.bare.append(key)
         self.printed.add(item.path)
         text = [line for _, line in lines_of(item)]
-        # It stands further right where it takes the names of a module around it.
+        # It is indented if it uses the names of a module around it.
         indent = "  " * len({at for _, at in item.section})
         plain, text = (textwrap.dedent("\n".join(it)).split("\n") for it in (lines, text))
         return [indent + line for line in plain + text]
 
     def definitions(self, asked):
-        """The definitions of some files, or single ones, as a block."""
+        """Returns the definitions of some files, or single ones, as a block."""
         lines, heads = [], []
         for item in self.closure.items:
             key = key_of(item)
@@ -122,7 +123,7 @@ class Page:
         return block(lines)
 
     def types(self, asked):
-        """Types of the code of these names, as a block."""
+        """Returns the types of the code with these names, as a block."""
         lines = []
         for item in self.closure.items:
             if item.kind == "declared" and item.name in asked:
@@ -131,7 +132,7 @@ class Page:
         return block(lines)
 
     def put(self, kind, rest):
-        """The lines that are put in the place of a directive."""
+        """Returns the lines that replace a directive."""
         if kind == "clause":
             return block(self.find(*rest.split()).text())
         if kind in ("definitions", "types"):
@@ -139,7 +140,7 @@ class Page:
         raise Unprinted(f"{{{kind}}}")
 
     def text(self):
-        """The whole page."""
+        """Returns the whole page."""
         lines = []
         for line in self.words:
             kind, rest = self.directive(line)

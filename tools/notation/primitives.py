@@ -7,8 +7,8 @@ kit's files say.
 
 import re
 
-# By module, each word and what it is in Python, of arguments by their numbers. One that stands
-# there twice may be worked out twice.
+# By module, each word and its meaning in Python. Numbers in braces stand for its arguments. An argument
+# that is there twice may be evaluated twice.
 WORDS = {
     "Prim": "tt = (); ◌,◌ = {0}, {1}",
     "Prim.Native.Nat": "zero = 0; suc = {0} + 1; ◌+◌ = {0} + {1}; ◌-◌ = max({0} - {1}, 0); "
@@ -25,15 +25,15 @@ WORDS = {
     "get_or = {0}[{1}] if {1} < len({0}) else {2}",
     "lib.IntN": "pos = {0}; negsuc = -1 - {0}; ◌+ℤ◌ = {0} + {1}; ◌-ℤ◌ = {0} - {1}; "
     "◌*ℤ◌ = {0} * {1}",
-    # As it is defined, but only the case is worked out that holds.
+    # As it is defined, but only the case that holds is evaluated.
     "Rattle.core.specs.Ordering": "match_ordering = {{'Less': lambda: {1}, 'Equal': lambda: {2}, "
     "'Greater': lambda: {3}}}[{0}[0]]()",
     "lib.Chars": "codes = tuple(map(ord, {0}))",
-    # Of floats only whether one is nearest: a format is the least number that has none.
+    # Floats are only tested for a nearest one: a format is the least number without it.
     "lib.Ieee": "binary64 = 2**1024 - 2**970; "
     "round = ('fin', {1}, None, None) if {2} < {0} * {3} else ('inf', {1})",
 }
-# Those that may stand in a pattern: when a value is one, and the arguments it then has.
+# Words in patterns: the test that a value fits, and the arguments that it then has.
 PATTERNS = {
     "Prim.Native.Nat.zero": ("{} == 0", []),
     "Prim.Native.Nat.suc": ("{} > 0", ["({} - 1)"]),

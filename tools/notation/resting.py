@@ -13,7 +13,7 @@ KEYWORDS = {"if", "then", "else", "let", "in", "record", "data", "where", "Type"
 
 
 def closing(words, at):
-    """Where the bracket that opens at a place is closed."""
+    """Returns the place at which the bracket that opens at a place is closed."""
     depth = 0
     for end in range(at, len(words)):
         depth += (words[end] in "({") - (words[end] in ")}")
@@ -23,7 +23,7 @@ def closing(words, at):
 
 
 class Scan:
-    """Goes over words of a file, and finds the names that they don't bind themselves."""
+    """Goes through the words of a file, and finds the names that they don't bind themselves."""
 
     def __init__(self, module, bound):
         self.module, self.scopes, self.found = module, [set(bound)], []
@@ -32,7 +32,7 @@ class Scan:
         return any(name in it for it in self.scopes)
 
     def lookup(self, word):
-        """What a word stands for in the module, where it isn't bound."""
+        """Returns what a word stands for in the module, unless it is bound."""
         parts = word.strip(".").split(".")
         if word[0] in '."' or self.is_bound(parts[0]):
             return None
@@ -43,7 +43,7 @@ class Scan:
         return None
 
     def use(self, word):
-        """Takes up what a word stands for, if anything."""
+        """Adds what a word stands for, if anything."""
         if word in MARKS or word in KEYWORDS or word.isdigit():
             if word == "if":
                 self.use("if◌then◌else◌")
@@ -53,7 +53,7 @@ class Scan:
             self.found.append((word, found))
 
     def words(self, words):
-        """Goes over words from the left; what a bracket, a λ or a `let` binds counts behind it."""
+        """Goes through words from the left. Names that a bracket, a λ or a `let` binds hold after it."""
         at = 0
         while at < len(words):
             word, following = words[at], words[at + 1 : at + 2]
@@ -66,12 +66,12 @@ class Scan:
                 self.scopes[-1].update(names_before_colons(words[at + 1 : end]))
                 at = end
             elif following != ["="]:
-                # Else it is the name of a record's field.
+                # Otherwise it is the name of a record's field.
                 self.use(word)
             at += 1
 
     def open(self, words, at):
-        """A bracket: it may bind names, which count up to where the one around it is closed."""
+        """Goes through a bracket. Names that it binds hold until the bracket around it is closed."""
         end = closing(words, at)
         inside = words[at + 1 : end]
         count = inside.index(":") if ":" in inside else 0
@@ -84,7 +84,7 @@ class Scan:
         return count
 
     def case(self, words):
-        """A case of a definition: what stands before `=` is bound, but for constructors."""
+        """Goes through a case of a definition. It binds the words before `=`, except constructors."""
         depth, end = 0, 0
         while words[end] != "=" or depth:
             depth += (words[end] in "({") - (words[end] in ")}")
@@ -100,7 +100,7 @@ class Scan:
         self.scopes.pop()
 
     def fields(self, chunk):
-        """The head of a type, and its fields or constructors, each a name and its own type."""
+        """Goes through the head of a type, and its fields or constructors: each has a name and a type."""
         end = head_of(chunk)
         self.words(words_of(chunk[:end])[2:])
         for words in map(words_of, chunks_of(chunk[end:])):
@@ -113,7 +113,7 @@ class Scan:
 
 
 def names_before_colons(words):
-    """The names that a λ or a let binds."""
+    """Returns the names that a λ or a `let` binds."""
     names, at = [], 0
     while at < len(words):
         if words[at] == "(":
@@ -128,12 +128,12 @@ def names_before_colons(words):
 
 
 def lines_of(item):
-    """The lines of a definition or a type, each with its number in the file."""
+    """Returns the lines of a definition or a type, each with its number in the file."""
     return sum(item.chunks, [])
 
 
 def heads_of(item):
-    """The heads of the modules with parameters that a definition stands in, as their lines."""
+    """Yields the heads of the modules with parameters around a definition, as their lines."""
     text = item.module.text
     for at in sorted({at for _, at in item.section}):
         lines = list(enumerate(text[at - 1 :], at))
@@ -142,7 +142,7 @@ def heads_of(item):
 
 @functools.lru_cache(None)
 def used_by(item):
-    """What the words of a definition or a type stand for, in the order in which they do."""
+    """Returns what the words of a definition or a type stand for, in their order."""
     if item.kind == "declared":
         return []
     bound = {item.name, *(name for name, _ in item.section)}
@@ -160,14 +160,14 @@ def used_by(item):
 
 
 class Closure:
-    """What some clauses rest on: definitions of this repository, each behind all that it uses, and
-    the words of the kit at which these end."""
+    """What some clauses rest on: definitions of this repository, each after the definitions that it
+    uses, and the words of the kit at which these end."""
 
     def __init__(self):
         self.items, self.of_kit, self.seen = [], {}, set()
 
     def add(self, word, found):
-        """What a word stands for, and all that it rests on."""
+        """Adds what a word stands for, and everything on which that rests."""
         kind = found[0]
         if kind == "primitive":
             self.of_kit.setdefault(found[1], word)

@@ -13,13 +13,13 @@ from .cases import cases_of
 from .names import lookup, module_of
 from .primitives import PATTERNS, PRIMITIVES
 
-# A definition over numbers alone keeps so many answers.
+# The number of answers that are kept of a definition over numbers alone.
 OVER_NUMBERS, MOST_KEPT = re.compile(r"[^:]* : (ℕ → )*[^→]+"), 4_096
 sys.setrecursionlimit(10**6)
 
 
 class Running:
-    """Definitions that were made functions, and how often each case of them has answered."""
+    """Definitions as functions, and how often each of their cases has answered."""
 
     def __init__(self):
         # Each case as its definition, its number and its line, and how often it has answered.
@@ -27,39 +27,39 @@ class Running:
         self.scope = {"counts": self.counts, "kept": functools.lru_cache(MOST_KEPT)}
 
     def item(self, path):
-        """The definition of a path `Rattle.CRATE.specs.FILE.NAME`."""
+        """Returns the definition of a path `Rattle.CRATE.specs.FILE.NAME`."""
         module, _, name = path.rpartition(".")
         return module_of(module).items[name]
 
     def of(self, path, *given):
-        """What a definition gives, as it is now."""
+        """Returns what a definition gives, as it is now."""
         return self.scope[self.code(self.item(path))](*given)
 
     def changed(self, path, change):
-        """Changes a definition's function, by which all others go too from now on."""
+        """Changes a definition's function. All others use the changed one from now on."""
         code = self.code(self.item(path))
         self.scope[code] = change(self.scope[code])
 
     def code(self, item):
-        """The name in Python of a definition."""
+        """Returns the name in Python of a definition."""
         if item not in self.codes:
             self.codes[item] = f"d{len(self.codes)}"
             self.make(item, cases_of(item))
         return self.codes[item]
 
     def make(self, item, cases):
-        """Makes a definition a function, of these cases."""
+        """Makes a function of a definition with these cases."""
         exec(Writer(self, item).text(cases), self.scope)  # pylint: disable=exec-used
 
 
 class Writer:
-    """Writes a definition as text of Python."""
+    """Writes a definition as a text of Python."""
 
     def __init__(self, running, item):
         self.running, self.item, self.numbers = running, item, itertools.count()
 
     def text(self, cases):
-        """The whole function: its cases are tried from the first on."""
+        """Returns the text of the whole function, which tries its cases from the first on."""
         given = [f"a{k}" for k in range(len(cases[0][1]))]
         signature = " ".join(line.strip() for _, line in self.item.chunks[0])
         lines = ["@kept"] if OVER_NUMBERS.fullmatch(signature) and not self.item.section else []
@@ -77,7 +77,8 @@ class Writer:
         return "\n".join(lines)
 
     def match(self, pattern, value, known):
-        """The tests that a value is of a pattern, whose names are known from then on."""
+        """Returns the tests that a value fits a pattern. The names of the pattern are known from then
+        on."""
         head, parts = pattern[1:] if pattern[0] == "call" else (pattern, ())
         found, _ = lookup(self.item.module, head[1])
         test, values = PATTERNS.get(found and found[1], (None, []))
@@ -94,7 +95,7 @@ class Writer:
         return tests
 
     def term(self, term, known):
-        """The text of a term, where names are known by these texts."""
+        """Returns the text of a term. Names are known by these texts."""
         kind, *parts = term
         if kind == "value":
             return repr(parts[0])
@@ -112,20 +113,20 @@ class Writer:
         return f"(lambda {name}: {self.term(parts[1], {**known, parts[0]: name})})"
 
     def call(self, head, arguments, known):
-        """The text of what a term gives for arguments."""
+        """Returns the text of a term applied to arguments."""
         if head[0] == "name":
             count, template = self.template(head[1], known)
         else:
             count, template, arguments = 1, "{}", (head, *arguments)
         texts = [self.term(it, known) for it in arguments]
-        # Where some are missing, it is a function that takes all of them, one after the other.
+        # If arguments are missing, it is a function that takes them one after the other.
         names = [f"x{k}" for k in range(count)] if len(texts) < count else []
         text = "".join(f"(lambda {it}: " for it in names) + template.format(*(names or texts))
         left = texts if names else texts[count:]
         return text + ")" * len(names) + "".join(f"({it})" for it in left)
 
     def template(self, parts, known):
-        """How many arguments a name takes, and the text in which these are put."""
+        """Returns how many arguments a name takes, and the text into which they are put."""
         if parts[0] in known:
             return 0, parts_of(known[parts[0]], parts[1:])
         found, behind = lookup(self.item.module, parts)
@@ -140,14 +141,14 @@ class Writer:
         return count, parts_of(f"({template})", behind)
 
     def definition(self, item):
-        """The same of a definition."""
+        """Returns how many arguments a definition takes, and the text into which they are put."""
         count, above = len(cases_of(item)[0][1]), len(item.section)
-        # Inside of a module with parameters these are handed on as they are.
+        # Inside a module with parameters, these are handed on unchanged.
         is_inside = (item.module, item.section) == (self.item.module, self.item.section[:above])
         given = [f"a{k}" if is_inside and k < above else "{}" for k in range(count)]
         return given.count("{}"), f"{self.running.code(item)}({', '.join(given)})"
 
 
 def parts_of(text, names):
-    """A part of pairs, by their numbers, or of records."""
+    """Returns the text for a part of a pair, by its number, or of a record."""
     return text + "".join(f"[{it if it.isdigit() else repr(it)}]" for it in names)

@@ -1,5 +1,4 @@
-"""numpy's functions over expressions, each made of operations of the request. The examples of their
-docstrings take their names from the package."""
+"""numpy's functions, made of the request's operations. Examples take their names from the package."""
 
 import inspect
 import sys

@@ -1,4 +1,4 @@
-"""Values chosen by conditions and by offsets, as numpy's functions of these names choose them."""
+"""Values chosen by conditions and by offsets, as numpy's functions with these names."""
 
 from __future__ import annotations
 
@@ -19,9 +19,9 @@ __all__ = [
 ]
 
 
-# So many nodes what is taken in parts may have.
+# The most nodes of values that are taken in parts.
 MOST_IN_PARTS = 30
-# Several runs of fewer offsets cost more as parts than as offsets that are taken.
+# Several runs of fewer offsets cost more as parts than as one take.
 LEAST_RUN = 16
 Run = Tuple[int, int, int]
 
@@ -35,7 +35,8 @@ def where(condition: Any, x: Any, y: Any) -> Expr: ...
 
 
 def where(condition: Any, x: Any = None, y: Any = None) -> Any:
-    """x where the condition isn't 0, else y; of a condition alone, where it isn't 0, as nonzero.
+    """Returns x where the condition isn't 0, and y elsewhere. Given only a condition, returns the
+    offsets where it isn't 0, as `nonzero`.
 
     >>> run(where(tensor([1, 5]) < 4, 10, -1)).values
     [10, -1]
@@ -46,7 +47,8 @@ def where(condition: Any, x: Any = None, y: Any = None) -> Any:
 
 
 def select(condlist: Sequence[Any], choicelist: Sequence[Any], default: Any = 0) -> Expr:
-    """What stands beside the first condition that isn't 0, else the default.
+    """Returns the values of the choice whose condition is the first that isn't 0, or else the default.
+    Raises ValueError unless each condition has a choice.
 
     >>> x = tensor([1, 5, 9])
     >>> run(select([x < 3, x < 7], [x, 10 * x], -1)).values
@@ -62,8 +64,8 @@ def select(condlist: Sequence[Any], choicelist: Sequence[Any], default: Any = 0)
 
 
 def offsets(named: Any, length: int) -> Expr:
-    """Offsets from 0 up, of offsets that may count from behind. Those of a tensor have to be there;
-    those of an expression aren't known, and one that isn't there chooses nothing, 0."""
+    """Returns offsets from 0 on; negative ones count from the end. Offsets of a tensor raise OutOfRange
+    if they are out of range. Offsets of an expression aren't known yet: out of range they choose 0."""
     expr = an_expr(named)
     if expr.truth:
         raise TypeError("truth values are no offsets: x[it] and compress(it, x) choose by them")
@@ -80,7 +82,7 @@ def offsets(named: Any, length: int) -> Expr:
 
 
 def ends_of(values: Held) -> Tuple[int, ...]:
-    """The least and the greatest of values, if there are any.
+    """Returns the least and the greatest of the values, or nothing without values.
 
     >>> ends_of([3, 1, 2]), ends_of([])
     ((1, 3), ())
@@ -94,8 +96,9 @@ def ends_of(values: Held) -> Tuple[int, ...]:
 
 
 def take(a: Any, indices: Any, axis: Any = None, out: None = None, mode: str = "raise") -> Expr:
-    """What stands at these offsets of an axis, or of all values, which may count from behind. Where
-    they aren't known yet, one that isn't there gives 0.
+    """Returns the values at these offsets of an axis, or of all values in C order. Negative offsets
+    count from the end. An offset out of range raises OutOfRange, or is wrapped or clipped by `mode`. In
+    an expression that hasn't run, it gives 0 instead of raising.
 
     >>> run(take([5, 6, 7, 8], [3, 0, -3])).values
     [8, 5, 6]
@@ -115,8 +118,8 @@ def take(a: Any, indices: Any, axis: Any = None, out: None = None, mode: str = "
 
 
 def at_offsets(expr: Expr, at: Expr, axis: int) -> Expr:
-    """What stands at these offsets of an axis: parts of it, where these are long and few and the
-    expression is short, since each part has the expression in it; or else what the request takes."""
+    """Returns the values at these offsets of an axis. It joins parts if these are long and few and the
+    expression is short, since each part contains the expression. Otherwise it uses the request's take."""
     if isinstance(at, Tensor) and at.ndim == 1:
         most = max(min(MOST_IN_PARTS // expr.nodes, len(at.own) // LEAST_RUN), 1)
         runs = runs_of(at.held, most)
@@ -126,8 +129,7 @@ def at_offsets(expr: Expr, at: Expr, axis: int) -> Expr:
 
 
 def runs_of(numbers: Sequence[int], most: int) -> Optional[List[Run]]:
-    """A list of offsets as runs of these, each its first one, a step and how many there are; if
-    there are no more than so many.
+    """Returns offsets as runs (first offset, step, length), or None if there are more than `most`.
 
     >>> runs_of([2, 1, 0, 1, 2, 3, 3, 3], 3), runs_of([0, 2, 1], 1)
     ([(2, -1, 3), (1, 1, 3), (3, 0, 2)], None)
@@ -147,14 +149,14 @@ def runs_of(numbers: Sequence[int], most: int) -> Optional[List[Run]]:
 
 
 def in_parts(expr: Expr, runs: Sequence[Run], axis: int) -> Expr:
-    """What stands at runs of offsets along an axis, one behind another."""
+    """Returns the values at runs of offsets along an axis, one run after another."""
     every = [[(0, 1, it)] for it in expr.shape]
     return in_blocks(expr, [*every[:axis], runs, *every[axis + 1 :]])
 
 
 def in_blocks(expr: Expr, runs: Sequence[Sequence[Run]], *cut: Run) -> Expr:
-    """What stands at runs of offsets along each axis: blocks, each cut out of the expression along
-    all axes at once, put together. A run is chosen already along each of the first axes."""
+    """Returns the values at runs of offsets along each axis. It cuts blocks out of the expression, along
+    all axes at once, and joins them. `cut` has the runs that are chosen for the first axes."""
     axis = len(cut)
     if axis < len(runs):
         return concatenate([in_blocks(expr, runs, *cut, it) for it in runs[axis]], axis)
@@ -165,7 +167,7 @@ def in_blocks(expr: Expr, runs: Sequence[Sequence[Run]], *cut: Run) -> Expr:
 
 
 def compress(condition: Any, a: Any, axis: Any = None) -> Expr:
-    """What stands where a list isn't 0, along an axis or in all values.
+    """Returns the parts along an axis, or of all values, where the condition, which runs, isn't 0.
 
     >>> run(compress([True, False, True], [5, 6, 7])).values
     [5, 7]
@@ -174,7 +176,7 @@ def compress(condition: Any, a: Any, axis: Any = None) -> Expr:
 
 
 def extract(condition: Any, arr: Any) -> Expr:
-    """The values where a condition isn't 0.
+    """Returns the values where a condition isn't 0. The condition runs.
 
     >>> run(extract([True, False, True], [5, 6, 7])).values
     [5, 7]
@@ -183,7 +185,8 @@ def extract(condition: Any, arr: Any) -> Expr:
 
 
 def sliding_window_view(x: Any, window_shape: Any, axis: Any = None) -> Expr:
-    """The parts of these lengths from each offset on, along axes of their own behind the others.
+    """Returns the windows of these lengths along axes, or along all. The axes of the windows come after
+    the axes of x. Raises ValueError for a window that is longer than its axis.
 
     >>> run(sliding_window_view([1, 2, 3, 4], 3)).nested()
     [[1, 2, 3], [2, 3, 4]]

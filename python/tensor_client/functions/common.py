@@ -1,4 +1,4 @@
-"""What numpy's functions here have in common: axes and dtypes as numpy names them."""
+"""What the functions share: axes and dtypes as numpy names them."""
 
 from __future__ import annotations
 
@@ -14,7 +14,7 @@ INT64_NAMES, BOOL_NAMES = (int, "int", "int64", "i8"), (bool, "bool", "?")
 
 
 def named_axes(axis: Any, rank: int) -> List[int]:
-    """Axes as numpy names them, by one number or by several.
+    """Returns axes from 0 on, given one number or several. Negative ones count from the end.
 
     >>> named_axes(-1, 3), named_axes((0, -1), 3)
     ([2], [0, 2])
@@ -23,7 +23,7 @@ def named_axes(axis: Any, rank: int) -> List[int]:
 
 
 def beside_axis(dims: Sequence[int], axis: int, sizes: Sequence[int]) -> List[int]:
-    """Dims with these sizes in the place of one axis.
+    """Returns dims with these sizes in place of one axis.
 
     >>> beside_axis((2, 3, 4), 1, [5, 6])
     [2, 5, 6, 4]
@@ -32,7 +32,7 @@ def beside_axis(dims: Sequence[int], axis: int, sizes: Sequence[int]) -> List[in
 
 
 def flat(x: Any, axis: Any) -> Tuple[Expr, int]:
-    """An expression and an axis of it: where that is None, the values along one axis."""
+    """Returns an expression and an axis of it; without an axis, its values along one axis, in C order."""
     expr = an_expr(x)
     if axis is None:
         return (expr if expr.ndim == 1 else expr.ravel()), 0
@@ -40,7 +40,7 @@ def flat(x: Any, axis: Any) -> Tuple[Expr, int]:
 
 
 def moved(expr: Expr, source: int, to: int) -> Expr:
-    """One axis moved to another's place.
+    """Returns an expression with one axis moved to another place.
 
     >>> moved(tensor([[1, 2, 3]]), 0, 1).dims
     (3, 1)
@@ -53,7 +53,7 @@ def moved(expr: Expr, source: int, to: int) -> Expr:
 
 
 def part(expr: Expr, axis: int, begin: int, end: int) -> Expr:
-    """The part of an expression between two offsets of an axis.
+    """Returns the part of an expression in [begin, end) of an axis.
 
     >>> run(part(tensor([1, 2, 3, 4]), 0, 1, 3)).values
     [2, 3]
@@ -66,8 +66,8 @@ def part(expr: Expr, axis: int, begin: int, end: int) -> Expr:
 
 
 def as_dtype(x: Any, dtype: Any) -> Expr:
-    """An expression whose values are asked for as a dtype: as int64 they are what they are, and
-    numbers, and as truth values 1 where they aren't 0.
+    """Returns an expression with its values as a dtype: as int64 they are numbers, and as bool they are
+    1 where they aren't 0. Raises NumpysOwn for other dtypes.
 
     >>> run(as_dtype([0, 5], bool)).values
     [0, 1]

@@ -1,5 +1,5 @@
-"""Values counted, found and ordered, as numpy's functions of these names do it. What they are given
-is run; without numpy lists are sorted, and searched by halves."""
+"""Values counted, found and ordered, as numpy's functions with these names. Their arguments run. Without
+numpy, lists are sorted, and searched by bisection."""
 
 from __future__ import annotations
 
@@ -20,7 +20,7 @@ __all__ = [
 
 
 def sort(a: Any, axis: Any = -1, kind: Any = None) -> Tensor:
-    """The values along an axis in order.
+    """Returns the values along an axis in ascending order.
 
     >>> sort([30, 10, 20]).values
     [10, 20, 30]
@@ -31,7 +31,7 @@ def sort(a: Any, axis: Any = -1, kind: Any = None) -> Tensor:
 
 
 def argsort(a: Any, axis: Any = -1, kind: Any = "stable") -> Tensor:
-    """The offsets of the values along an axis by their order, those of equal ones as they stand.
+    """Returns the offsets that sort the values along an axis. By default, equal values keep their order.
 
     >>> argsort([30, 10, 20]).values
     [1, 2, 0]
@@ -42,7 +42,7 @@ def argsort(a: Any, axis: Any = -1, kind: Any = "stable") -> Tensor:
 
 
 def searchsorted(a: Any, v: Any, side: str = "left", sorter: Any = None) -> Tensor:
-    """The first offset at which each value can be put into a list that rises, or the last.
+    """Returns the first offset at which each value can be inserted into a sorted list, or the last.
 
     >>> searchsorted([1, 3, 3, 5], [3, 4]).values
     [1, 3]
@@ -56,7 +56,7 @@ def searchsorted(a: Any, v: Any, side: str = "left", sorter: Any = None) -> Tens
 
 
 def placed(line: List[int], v: Any, side: str) -> Tensor:
-    """Where each value can be put into a list that rises: without numpy.
+    """Returns where each value can be inserted into a sorted list, without numpy.
 
     >>> placed([1, 3, 5], 3, "right").item()
     2
@@ -66,7 +66,8 @@ def placed(line: List[int], v: Any, side: str) -> Tensor:
 
 
 def digitize(x: Any, bins: Any, right: bool = False) -> Tensor:
-    """Between which bounds each value stands: how many of them it has reached, or passed.
+    """Returns the bin of each value: how many of the rising bounds are at most the value, or below it if
+    `right`. Bounds may also fall. Raises ValueError if they do neither.
 
     >>> digitize([1, 5, 9], [3, 6]).values
     [0, 1, 2]
@@ -77,7 +78,7 @@ def digitize(x: Any, bins: Any, right: bool = False) -> Tensor:
     if line == sorted(line):
         return placed(line, x, side)
     if line[::-1] != sorted(line):
-        raise ValueError("bounds rise, or fall")
+        raise ValueError("bounds have to rise, or to fall")
     return (len(line) - placed(line[::-1], x, side))._answered()
 
 
@@ -86,8 +87,8 @@ def bincount(x: Any, weights: None = None, minlength: int = 0) -> Tensor: ...
 @overload
 def bincount(x: Any, weights: Any, minlength: int = 0) -> Any: ...
 def bincount(x: Any, weights: Any = None, minlength: int = 0) -> Any:
-    """How often each number from 0 up stands in a list, or what the weights beside it come to: as
-    an array of fractions, which numpy has them as, or without numpy as a tensor.
+    """Returns how often each number from 0 on is in a list; or the sum of its weights, as an array of
+    fractions, or without numpy as a tensor. Raises ValueError for numbers below 0 and for several axes.
 
     >>> bincount([0, 2, 2, 3]).values
     [1, 0, 2, 1]
@@ -107,7 +108,7 @@ def bincount(x: Any, weights: Any = None, minlength: int = 0) -> Any:
 
 
 def added(places: List[int], values: List[int], size: int) -> Tensor:
-    """What the values come to at each of so many places, 0 where there is none.
+    """Returns the sum of the values at each place in [0, size), 0 without values.
 
     >>> added([0, 2, 2], [5, 6, 7], 3).values
     [5, 0, 13]
@@ -119,7 +120,8 @@ def added(places: List[int], values: List[int], size: int) -> Tensor:
 
 
 def histogram(a: Any, bins: Any = 10, range: Any = None, weights: Any = None) -> Tuple[Any, Any]:
-    """How many values stand between each two edges, the last one's own among them; and the edges.
+    """Returns how many values are between each two edges, and the edges. The last edge belongs to the
+    last bin. Without numpy, the edges have to be given.
 
     >>> counts, edges = histogram([1, 2, 3, 4, 5], [1, 3, 5])
     >>> counts.values
@@ -132,10 +134,10 @@ def histogram(a: Any, bins: Any = 10, range: Any = None, weights: Any = None) ->
         return found
     line = values_of(bins)
     if line != sorted(line) or not an_expr(bins).shape:
-        raise ValueError("the edges of a histogram rise; without numpy they are given, as a list")
+        raise ValueError("the edges of a histogram have to rise; without numpy they are a list")
     values = values_of(a)
     sums = [1] * len(values) if own is None else values_of(own)
-    # The last edge lies in the last bin, and what lies in none is left out.
+    # The last edge belongs to the last bin. Values in no bin are left out.
     bounds = line[:-1] + [it + 1 for it in line[-1:]]
     places = placed(bounds, Tensor(values, [len(values)]), "right").values
     counts = added(places, sums, len(line) + 1)[1:-1]
@@ -143,7 +145,7 @@ def histogram(a: Any, bins: Any = 10, range: Any = None, weights: Any = None) ->
 
 
 def isin(element: Any, test_elements: Any, invert: bool = False) -> Tensor:
-    """True where a value is one of others.
+    """Returns whether each value is one of others.
 
     >>> isin([1, 2, 3], [3, 1]).values
     [1, 0, 1]
@@ -158,7 +160,7 @@ in1d = isin
 
 
 def nonzero(a: Any) -> Tuple[Tensor, ...]:
-    """The offsets along each axis where values aren't 0.
+    """Returns, for each axis, the offsets of the values that aren't 0.
 
     >>> [it.values for it in nonzero([[0, 5], [7, 0]])]
     [[0, 1], [1, 0]]
@@ -179,7 +181,7 @@ def unique(ar: Any) -> Tensor: ...
 @overload
 def unique(ar: Any, **more: Any) -> Any: ...
 def unique(ar: Any, **more: Any) -> Any:
-    """The values, each once, in order; and what else numpy's function of this name gives.
+    """Returns the values in order, each once; and what else numpy's function returns for more arguments.
 
     >>> unique([3, 1, 3]).values
     [1, 3]
@@ -190,7 +192,7 @@ def unique(ar: Any, **more: Any) -> Any:
 
 
 def take_along_axis(arr: Any, indices: Any, axis: Any) -> Tensor:
-    """What stands at the offsets that each line of an axis has of its own.
+    """Returns the values at offsets that each line along an axis has of its own. Raises OutOfRange.
 
     >>> take_along_axis([[5, 6], [7, 8]], [[1], [0]], 1).nested()
     [[6], [7]]
@@ -206,6 +208,6 @@ def take_along_axis(arr: Any, indices: Any, axis: Any) -> Tensor:
     values = spread(first, (length, *rest))._answered().values
     offsets = spread(at, (count, *rest))._answered().values
     if any(not -length <= it < length for it in offsets):
-        raise OutOfRange(f"an offset past {length} places")
+        raise OutOfRange(f"an offset is out of range for {length} places")
     found = [values[at // count * length + it % length] for at, it in enumerate(offsets)]
     return moved(Tensor(found, (count, *rest), expr.truth), 0, along)._answered()

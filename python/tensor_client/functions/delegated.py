@@ -1,5 +1,5 @@
-"""numpy's own functions and methods, over what has run: what this package has no function for, and
-what puts values in order. They take tensors and expressions as arrays of their values."""
+"""numpy's own functions and methods, for what this package doesn't compute and for sorting. They take
+tensors as arrays, and expressions as arrays after these have run."""
 
 from __future__ import annotations
 
@@ -17,22 +17,22 @@ from ..values import NumpysOwn, numpy
 from .common import flat, moved
 
 Lines = Callable[[List[int]], List[int]]
-NOT_LAID_OUT = "how values lie is known of what has run: run(x)"
-WRITTEN = "a tensor isn't written: x.at[i].set(v) and where(condition, v, x) have other values"
-# What numpy's arrays and functions write into arrays that are there.
+NOT_LAID_OUT = "only a tensor has values in memory, and run(x) gives one"
+WRITTEN = "a tensor isn't written into: x.at[i].set(v) and where(condition, v, x) return another"
+# numpy's methods and functions that write into an array.
 WRITING = frozenset(
     "at fill put place putmask put_along_axis copyto fill_diagonal itemset setflags setfield".split()
 )
-# What methods do in place, and functions of these names don't.
+# Methods that work in place, while functions with these names don't.
 IN_PLACE = frozenset("sort partition resize".split())
-# What a tensor has, and an expression that hasn't run.
+# Attributes of a tensor, for which an expression runs.
 TENSOR_HAS = "array", "nested", "values"
-# What asks how values lie in memory.
+# What says how values lie in memory.
 LAYOUT = frozenset("flags strides isfortran may_share_memory".split())
 
 
 def as_arrays(value: Any) -> Any:
-    """The same with arrays in the place of tensors and expressions, which are run."""
+    """Returns a value with arrays in place of tensors and expressions, which run."""
     if isinstance(value, Expr):
         return value._answered().array()
     if isinstance(value, dict):
@@ -43,7 +43,7 @@ def as_arrays(value: Any) -> Any:
 
 
 def as_tensors(found: Any) -> Any:
-    """The same with tensors in the place of arrays of int64 and of truth values."""
+    """Returns a value with tensors in place of arrays of int64 and of bool."""
     if type(found) in (list, tuple):
         return type(found)(map(as_tensors, found))
     is_array = type(found) is numpy.ndarray or isinstance(found, numpy.generic)
@@ -51,8 +51,8 @@ def as_tensors(found: Any) -> Any:
 
 
 class Delegated:
-    """A function or a method of numpy's over arrays, with the functions that it has itself, as the
-    `reduce` of gcd. It gives tensors where numpy gives arrays of int64 or of truth values."""
+    """A function or a method of numpy, with its own functions, such as `reduce` of gcd. It takes
+    tensors, and returns tensors where numpy returns arrays of int64 or of bool."""
 
     def __init__(self, function: Any) -> None:
         functools.update_wrapper(self, function)
@@ -72,15 +72,15 @@ class Delegated:
 
 
 def by_numpy(name: str, *inputs: Any, **more: Any) -> Any:
-    """What numpy's function of this name gives."""
+    """Returns what numpy's function of this name returns. Raises TypeError without numpy."""
     if numpy is None:
-        raise TypeError(f"numpy isn't installed, whose function {name} is")
+        raise TypeError(f"numpy isn't installed, and {name} is a function of numpy")
     return Delegated(operator.attrgetter(name)(numpy))(*inputs, **more)
 
 
 def or_numpys(function: Any) -> Any:
-    """A function of this package, or numpy's of its name where it takes what tensors don't have:
-    fractions, other dtypes, and arguments that this package's hasn't."""
+    """Returns a function that calls this one, or numpy's of its name for fractions, for other dtypes,
+    and for arguments that only numpy's has."""
     name, signature = function.__name__, inspect.signature(function)
 
     @functools.wraps(function)
@@ -99,7 +99,7 @@ def or_numpys(function: Any) -> Any:
 
 
 def is_unfit(signature: inspect.Signature, inputs: Any, more: Any) -> bool:
-    """Whether a function doesn't have these arguments."""
+    """Whether a function doesn't take these arguments."""
     try:
         signature.bind(*inputs, **more)
     except TypeError:
@@ -108,15 +108,15 @@ def is_unfit(signature: inspect.Signature, inputs: Any, more: Any) -> bool:
 
 
 def tensor_by_numpy(name: str, *inputs: Any, **more: Any) -> Tensor:
-    """The tensor that numpy's function of this name gives."""
+    """Returns the tensor that numpy's function of this name gives."""
     found: Tensor = by_numpy(name, *inputs, **more)
     return found
 
 
 def function_of(module: Any, name: str, owner: str, names: Any) -> Any:
-    """What a module of numpy's has by a name that this package's hasn't."""
+    """Returns what a module of numpy has by a name that this package lacks. Raises AttributeError."""
     if not hasattr(module, name):
-        # The array API's name of what numpy has had by another.
+        # numpy's older name for a function that the array API names otherwise.
         name = re.sub("^a(?=cos|sin|tan)", "arc", name)
     found = None if name.startswith("_") or name in WRITING else getattr(module, name, None)
     if found is None:
@@ -126,8 +126,8 @@ def function_of(module: Any, name: str, owner: str, names: Any) -> Any:
 
 
 def method_of(expr: Expr, name: str) -> Any:
-    """What numpy's arrays have by a name that expressions haven't. A method runs the expression when
-    it is called."""
+    """Returns what numpy's arrays have by a name that expressions lack. A method runs the expression
+    when it is called. Raises AttributeError."""
     if name in TENSOR_HAS and not isinstance(expr, Tensor):
         return getattr(expr._answered(), name)
     if name in LAYOUT and not isinstance(expr, Tensor):
@@ -141,7 +141,7 @@ def method_of(expr: Expr, name: str) -> Any:
 
 
 def no_name(owner: str, name: str, names: Iterable[str]) -> str:
-    """What is said where a name is asked for that isn't here.
+    """Returns the message for a name that doesn't exist here.
 
     >>> print(no_name("Tensor", "sort", []))
     Tensor has no 'sort': sort(x) is a function, and x stays what it is
@@ -160,7 +160,7 @@ def no_name(owner: str, name: str, names: Iterable[str]) -> str:
 
 
 def over_lines(function: Lines, a: Any, axis: Any) -> Tensor:
-    """What a function of lists gives of each line along an axis: without numpy.
+    """Applies a function of lists to each line along an axis, without numpy.
 
     >>> over_lines(sorted, [[3, 1], [1, 2]], 0).nested()
     [[1, 1], [3, 2]]
@@ -174,5 +174,5 @@ def over_lines(function: Lines, a: Any, axis: Any) -> Tensor:
 
 
 def values_of(x: Any) -> List[int]:
-    """The values of what is run for them, in numpy's order."""
+    """Returns the values of x in C order. An expression runs."""
     return an_expr(x).ravel()._answered().values

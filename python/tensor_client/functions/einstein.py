@@ -1,4 +1,4 @@
-"""numpy's einsum: sums of products by letters that name axes."""
+"""numpy's einsum: sums of products, by letters that name axes."""
 
 from __future__ import annotations
 
@@ -14,7 +14,7 @@ __all__ = [
     "einsum",
 ]
 
-# The axes that `...` stands for are digits, the last axis the last one.
+# Digits name the axes that `...` stands for. The last digit names the last axis.
 DIGITS = "01234567"
 LETTERS = frozenset("abcdefghijklmnopqrstuvwxyzABCDEFGHIJKLMNOPQRSTUVWXYZ" + DIGITS)
 # An operand, and a letter for each of its axes.
@@ -22,15 +22,15 @@ Named = Tuple[str, Expr]
 
 
 def einsum(labels: str, *operands: Any) -> Expr:
-    """The sums of the products over all axes whose letter isn't in the result. Two operands are
-    contracted where the letters of both are summed over; a letter of both that is in the result
-    takes all products, of which there are up to 268,435,456 then.
+    """Returns numpy's einsum: the sums of products over all axes whose letter isn't in the result. Two
+    operands are contracted if no letter that they share is needed later. Otherwise all their products
+    are computed first, at most 268,435,456. Raises ValueError for wrong letters, and ShapeMismatch.
 
     >>> run(einsum("ij,kj->ki", [[1, 2], [3, 4]], [[5, 6]])).nested()
     [[17, 39]]
     """
     if not isinstance(labels, str):
-        raise NumpysOwn("einsum asks for its letters first, as in einsum('ij,jk->ik', x, y)")
+        raise NumpysOwn("einsum takes its letters first, as in einsum('ij,jk->ik', x, y)")
     told, exprs = labels.replace(" ", ""), [an_expr(it) for it in operands]
     named, arrow, result = told.partition("->")
     inputs = named.split(",")
@@ -43,7 +43,7 @@ def einsum(labels: str, *operands: Any) -> Expr:
         result = "..." + "".join(sorted(it for it in {*letters} - {*digits} if letters.count(it) == 1))
     result = result.replace("...", digits)
     if len({*result}) != len(result) or not {*digits} <= {*result} <= {*letters}:
-        raise ValueError(f"the result of {labels!r} has each letter once, of the operands', and `...`")
+        raise ValueError(f"the result of {labels!r} takes the operands' letters, each once, and `...`")
     left = [on_diagonals(*it, labels) for it in zip(inputs, exprs)]
     found = summed(left.pop(0), {*result}.union(*(it[0] for it in left)))
     while left:
@@ -54,7 +54,7 @@ def einsum(labels: str, *operands: Any) -> Expr:
 
 
 def with_digits(words: str, expr: Expr) -> str:
-    """The letters of an operand, with digits in the place of `...`.
+    """Returns the letters of an operand, with digits in place of `...`.
 
     >>> with_digits("...j", tensor([[[5]]]))
     '67j'
@@ -64,9 +64,9 @@ def with_digits(words: str, expr: Expr) -> str:
 
 
 def on_diagonals(words: str, expr: Expr, labels: str) -> Named:
-    """An operand, along the diagonal of axes that have the same letter."""
+    """Returns an operand, along the diagonal of axes with one letter."""
     if not {*words} <= LETTERS:
-        raise ValueError(f"letters name axes, and nothing else does here: {labels!r}")
+        raise ValueError(f"only letters name axes: {labels!r}")
     if len(words) != expr.ndim:
         raise ShapeMismatch(f"{words!r} for dims {expr.shape}")
     for it in words:
@@ -80,7 +80,7 @@ def on_diagonals(words: str, expr: Expr, labels: str) -> Named:
 
 
 def summed(named: Named, wanted: Set[str]) -> Named:
-    """An operand, summed over the axes whose letters aren't wanted."""
+    """Returns an operand, summed over the axes whose letters aren't wanted."""
     words, expr = named
     gone = [at for at, it in enumerate(words) if it not in wanted]
     left = "".join(it for it in words if it in wanted)
@@ -88,7 +88,7 @@ def summed(named: Named, wanted: Set[str]) -> Named:
 
 
 def multiplied(left: Named, right: Named, wanted: Set[str]) -> Named:
-    """The sums of the products of two operands over the axes whose letters aren't wanted."""
+    """Returns the sums of the products of two operands over the axes whose letters aren't wanted."""
     both = [it for it in left[0] if it in right[0]]
     if not {*both} & wanted:
         pairs = [(left[0].index(it), right[0].index(it)) for it in both]
@@ -103,13 +103,13 @@ def multiplied(left: Named, right: Named, wanted: Set[str]) -> Named:
 
 
 def over_letters(named: Named, words: str) -> Expr:
-    """An operand with an axis for each of these letters, of one place where it has none."""
+    """Returns an operand with an axis for each of these letters. An axis that it lacks has length 1."""
     expr = in_letters(named, "".join(it for it in words if it in named[0]))
     sizes = iter(expr.shape)
     return expr.in_dims([next(sizes) if it in named[0] else 1 for it in words])
 
 
 def in_letters(named: Named, words: str) -> Expr:
-    """An operand with its axes in the order of these letters, which are its own."""
+    """Returns an operand with its axes in the order of these letters, which are its own."""
     order: List[int] = [named[0].index(it) for it in words]
     return named[1] if order == sorted(order) else named[1].shuffle(order)

@@ -1,4 +1,4 @@
-"""What lists of offsets, and lists of truth values, choose among the indices of x[..]."""
+"""The part that x[..] names if its index has lists of offsets or of truth values."""
 
 from __future__ import annotations
 
@@ -14,13 +14,13 @@ from .counted import nonzero
 
 
 def at_lists(expr: Expr, index: Tuple[Any, ...]) -> Expr:
-    """The part that an index with lists in it names. As numpy has it, numbers beside lists are
-    lists too, all are of one length or repeated to one, and each place of them is an offset along
-    their axes; what they choose stands first where they don't stand beside one another."""
+    """Returns the part that an index with lists in it names. As in numpy, numbers beside lists count as
+    lists, all are broadcast to equal dims, and each of their places is an offset along their axes. Their
+    axes come first if the lists aren't beside one another."""
     parts = parts_of(tuple(offsets_for(expr, index)), expr.ndim)
     chosen = [at for at, it in enumerate(parts) if not (it is None or isinstance(it, Slice))]
     lists = [an_expr(parts[at]) for at in chosen]
-    # Slices and new axes first; each index is then an axis.
+    # Slices and new axes come first. Each index is then an axis.
     found = expr[tuple(Slice(None) if at in chosen else it for at, it in enumerate(parts))]
     if len(chosen) == 1:
         return take(found, lists[0], chosen[0])
@@ -31,7 +31,7 @@ def at_lists(expr: Expr, index: Tuple[Any, ...]) -> Expr:
         at = at.mul(length).add(offsets(named, length))
     to = chosen[0] if are_beside else 0
     others = [it for it in range(found.ndim) if it not in chosen]
-    # Column-major, axes in reverse order are one axis as numpy counts their places.
+    # In column-major order, axes in reverse order become one axis in C order.
     order = others[:to] + chosen[::-1] + others[to:]
     turned = found.shuffle(order)
     dims = [*turned.shape[:to], rules.product(lengths), *turned.shape[to + len(chosen) :]]
@@ -39,7 +39,7 @@ def at_lists(expr: Expr, index: Tuple[Any, ...]) -> Expr:
 
 
 def offsets_for(expr: Expr, index: Tuple[Any, ...]) -> Iterator[Any]:
-    """An index, in which lists of truth values are lists of the offsets where they are true."""
+    """Yields an index in which lists of offsets replace lists of truth values. Raises OutOfRange."""
     axis = 0
     for at, it in enumerate(index):
         if is_list(it):
@@ -60,7 +60,7 @@ def offsets_for(expr: Expr, index: Tuple[Any, ...]) -> Iterator[Any]:
 
 
 def axes_of(index: Any) -> int:
-    """How many axes an index names."""
+    """Returns how many axes an index names."""
     named = an_expr(index) if is_list(index) else None
     return named.ndim if named is not None and named.truth else 1
 

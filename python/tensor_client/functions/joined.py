@@ -1,4 +1,4 @@
-"""Parts put together and taken apart along axes, as numpy's functions of these names do it."""
+"""Parts joined and split along axes, as numpy's functions with these names."""
 
 from __future__ import annotations
 
@@ -20,14 +20,13 @@ __all__ = [
 
 
 def concat(x: Any, y: Any = None, axis: Optional[int] = None) -> Expr:
-    """y behind x along an axis; or all parts of x, as concatenate has them, with the axis behind
-    them, as numpy's concat.
+    """Returns y after x along an axis; without y, all parts of x, as numpy's concat(x, axis).
 
     >>> run(concat([[1, 2]], [[3, 4]], 1)).nested(), run(concat([[1, 2], [3]])).values
     ([[1, 2, 3, 4]], [1, 2, 3])
     """
     if y is None or not is_several(y):
-        # What stands second is no part.
+        # The second argument is an axis.
         return concatenate(x, *(it for it in (axis, y) if it is not None))
     if axis is None:
         raise TypeError("concat(x, y, axis) asks for the axis")
@@ -35,8 +34,8 @@ def concat(x: Any, y: Any = None, axis: Optional[int] = None) -> Expr:
 
 
 def concatenate(parts: Sequence[Any], axis: Optional[int] = 0) -> Expr:
-    """All parts, one behind another along an axis; or, where that is None, the values of all along
-    one axis.
+    """Returns all parts, one after another along an axis; with axis=None, the values of all along one
+    axis. Raises ValueError without parts, and ShapeMismatch.
 
     >>> run(concatenate([[1, 2], [3], [4, 5]])).values
     [1, 2, 3, 4, 5]
@@ -47,14 +46,14 @@ def concatenate(parts: Sequence[Any], axis: Optional[int] = 0) -> Expr:
     if axis is None:
         exprs = [it.ravel() for it in exprs]
     while len(exprs) > 1:
-        # In pairs, and these in pairs: so a long list nests little.
+        # Pairs of pairs, so that a long list nests little.
         pairs = [it[0].concat(it[1], along) for it in zip(exprs[::2], exprs[1::2])]
         exprs = pairs + exprs[len(exprs) // 2 * 2 :]
     return exprs[0]
 
 
 def stack(parts: Sequence[Any], axis: int = 0) -> Expr:
-    """All parts along a new axis.
+    """Returns all parts along a new axis. Raises ShapeMismatch unless they have equal dims.
 
     >>> run(stack([[1, 2], [3, 4], [5, 6]], axis=1)).nested()
     [[1, 3, 5], [2, 4, 6]]
@@ -62,14 +61,14 @@ def stack(parts: Sequence[Any], axis: int = 0) -> Expr:
     exprs = [an_expr(it) for it in parts]
     if len({it.shape for it in exprs}) != 1:
         shapes = [it.shape for it in exprs]
-        raise ShapeMismatch(f"a stack of {len(exprs)} parts, of dims {shapes}")
+        raise ShapeMismatch(f"a stack needs parts of equal dims, and not dims {shapes}")
     at = rules.axis_of(whole(axis), exprs[0].ndim + 1)
     dims = [*exprs[0].shape[:at], 1, *exprs[0].shape[at:]]
     return concatenate([it.in_dims(dims) for it in exprs], at)
 
 
 def vstack(tup: Sequence[Any]) -> Expr:
-    """All parts below one another; lists are rows.
+    """Returns all parts along the first axis. Lists are rows.
 
     >>> run(vstack([[1, 2], [3, 4]])).nested()
     [[1, 2], [3, 4]]
@@ -81,7 +80,7 @@ row_stack = vstack
 
 
 def hstack(tup: Sequence[Any]) -> Expr:
-    """All parts beside one another; lists one behind another.
+    """Returns all parts along the second axis. Lists are joined along their only axis.
 
     >>> run(hstack([[[1], [2]], [[3], [4]]])).nested()
     [[1, 3], [2, 4]]
@@ -91,7 +90,7 @@ def hstack(tup: Sequence[Any]) -> Expr:
 
 
 def dstack(tup: Sequence[Any]) -> Expr:
-    """All parts along a third axis.
+    """Returns all parts along the third axis.
 
     >>> run(dstack([[1, 2], [3, 4]])).nested()
     [[[1, 3], [2, 4]]]
@@ -100,7 +99,7 @@ def dstack(tup: Sequence[Any]) -> Expr:
 
 
 def column_stack(tup: Sequence[Any]) -> Expr:
-    """All parts beside one another; lists are columns.
+    """Returns all parts along the second axis. Lists are columns.
 
     >>> run(column_stack([[1, 2], [3, 4]])).nested()
     [[1, 3], [2, 4]]
@@ -110,7 +109,7 @@ def column_stack(tup: Sequence[Any]) -> Expr:
 
 
 def append(arr: Any, values: Any, axis: Optional[int] = None) -> Expr:
-    """The values behind the others, along an axis or along one of all values.
+    """Returns arr and the values after it, along an axis; without one, all values along one axis.
 
     >>> run(append([1, 2], 3)).values
     [1, 2, 3]
@@ -119,7 +118,7 @@ def append(arr: Any, values: Any, axis: Optional[int] = None) -> Expr:
 
 
 def block(arrays: Any) -> Expr:
-    """Nested lists of parts, put together: the innermost along the last axis.
+    """Returns nested lists of parts, joined. The innermost lists are joined along the last axis.
 
     >>> one, two = tensor([[1]]), tensor([[2, 3]])
     >>> run(block([[one, two], [two, one]])).nested()
@@ -144,8 +143,8 @@ def put_together(arrays: Any, depth: int, rank: int) -> Expr:
 
 
 def array_split(ary: Any, indices_or_sections: Any, axis: int = 0) -> List[Expr]:
-    """So many parts along an axis, the first of them longer where they can't be alike; or the
-    parts between these offsets.
+    """Returns this many parts along an axis, of which the first may be longer by one; or the parts
+    between these offsets. Raises ValueError for no parts.
 
     >>> [run(it).values for it in array_split([1, 2, 3], 2)]
     [[1, 2], [3]]
@@ -166,7 +165,8 @@ def array_split(ary: Any, indices_or_sections: Any, axis: int = 0) -> List[Expr]
 
 
 def split(ary: Any, indices_or_sections: Any, axis: int = 0) -> List[Expr]:
-    """So many parts of one length along an axis, or the parts between these offsets.
+    """Returns this many parts of equal length along an axis, or the parts between these offsets. Raises
+    ValueError if equal parts can't be made.
 
     >>> [run(it).values for it in split([1, 2, 3, 4], 2)]
     [[1, 2], [3, 4]]
@@ -181,7 +181,7 @@ def split(ary: Any, indices_or_sections: Any, axis: int = 0) -> List[Expr]:
 
 
 def vsplit(ary: Any, indices_or_sections: Any) -> List[Expr]:
-    """Parts below one another.
+    """Returns parts along the first axis.
 
     >>> [run(it).nested() for it in vsplit([[1, 2], [3, 4]], 2)]
     [[[1, 2]], [[3, 4]]]
@@ -190,7 +190,7 @@ def vsplit(ary: Any, indices_or_sections: Any) -> List[Expr]:
 
 
 def hsplit(ary: Any, indices_or_sections: Any) -> List[Expr]:
-    """Parts beside one another.
+    """Returns parts along the second axis, or along the only one.
 
     >>> [run(it).nested() for it in hsplit([[1, 2], [3, 4]], 2)]
     [[[1], [3]], [[2], [4]]]
@@ -200,7 +200,7 @@ def hsplit(ary: Any, indices_or_sections: Any) -> List[Expr]:
 
 
 def dsplit(ary: Any, indices_or_sections: Any) -> List[Expr]:
-    """Parts along the third axis.
+    """Returns parts along the third axis.
 
     >>> [run(it).nested() for it in dsplit([[[1, 2]]], 2)]
     [[[[1]]], [[[2]]]]
@@ -209,7 +209,7 @@ def dsplit(ary: Any, indices_or_sections: Any) -> List[Expr]:
 
 
 def unstack(x: Any, axis: int = 0) -> List[Expr]:
-    """The parts at each offset of an axis, without it.
+    """Returns the part at each offset of an axis, without the axis.
 
     >>> [run(it).values for it in unstack([[1, 2], [3, 4]])]
     [[1, 2], [3, 4]]
@@ -220,7 +220,7 @@ def unstack(x: Any, axis: int = 0) -> List[Expr]:
 
 
 def offsets_of(named: Any, length: int, past: int = 0) -> List[int]:
-    """Offsets along an axis that a number, a slice or a list names."""
+    """Returns the offsets along an axis that a number, a slice or a list names. Raises OutOfRange."""
     if isinstance(named, slice):
         return [*range(*named.indices(length))]
     numbers = numbers_of(named)
@@ -231,7 +231,7 @@ def offsets_of(named: Any, length: int, past: int = 0) -> List[int]:
 
 
 def delete(arr: Any, obj: Any, axis: Optional[int] = None) -> Expr:
-    """Without what stands at these offsets of an axis, or of all values.
+    """Returns arr without the values at these offsets of an axis, or of all values.
 
     >>> run(delete([5, 6, 7], 1)).values
     [5, 7]
@@ -248,7 +248,7 @@ def delete(arr: Any, obj: Any, axis: Optional[int] = None) -> Expr:
 
 
 def insert(arr: Any, obj: Any, values: Any, axis: Optional[int] = None) -> Expr:
-    """With these values before an offset of an axis, or of all values.
+    """Returns arr with these values before an offset of an axis, or of all values.
 
     >>> run(insert([5, 7], 1, 6)).values
     [5, 6, 7]
@@ -258,7 +258,7 @@ def insert(arr: Any, obj: Any, values: Any, axis: Optional[int] = None) -> Expr:
     expr, along = flat(arr, axis)
     length = expr.shape[along]
     at = offsets_of(obj, length, past=1)[0]
-    # As numpy has it, the first axis of the values goes along the axis.
+    # As in numpy, the first axis of the values goes along the axis.
     new = moved(with_axes(values, expr.ndim), 0, along)
     wide = broadcast_to(new, beside_axis(expr.shape, along, [new.shape[along]]))
     parts = part(expr, along, 0, at), wide, part(expr, along, at, length)

@@ -1,4 +1,4 @@
-"""What numpy.linalg has of whole numbers, by its names."""
+"""The functions of numpy.linalg for whole numbers, by its names."""
 
 from __future__ import annotations
 
@@ -18,7 +18,7 @@ __all__ = [
 
 
 def diagonal(x: Any, *, offset: int = 0) -> Expr:
-    """The values along a diagonal of the last two axes.
+    """Returns the values along a diagonal of the last two axes.
 
     >>> run(diagonal([[1, 2], [3, 4]])).values
     [1, 4]
@@ -27,7 +27,7 @@ def diagonal(x: Any, *, offset: int = 0) -> Expr:
 
 
 def trace(x: Any, *, offset: int = 0, dtype: Any = None) -> Expr:
-    """The sum along a diagonal of the last two axes.
+    """Returns the sum along a diagonal of the last two axes.
 
     >>> run(trace([[1, 2], [3, 4]])).item()
     5
@@ -38,5 +38,5 @@ def trace(x: Any, *, offset: int = 0, dtype: Any = None) -> Expr:
 if not TYPE_CHECKING:
 
     def __getattr__(name: str) -> Any:
-        """What numpy.linalg has, and isn't here."""
+        """Returns what numpy.linalg has and this module lacks."""
         return function_of(getattr(numpy, "linalg", None), name, "linalg", __all__)

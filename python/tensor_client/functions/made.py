@@ -1,4 +1,4 @@
-"""Tensors that are made of numbers and of places, as numpy's functions of these names make them."""
+"""Tensors made of numbers and of offsets, as numpy's functions with these names."""
 
 from __future__ import annotations
 
@@ -20,7 +20,8 @@ __all__ = [
 
 
 def array(values: Any, dtype: Any = None, copy: Any = True, ndmin: int = 0) -> Expr:
-    """A tensor, as numpy's array; an expression stays what it is.
+    """Returns a tensor, as numpy's array. An expression stays as it is. `copy` has no effect: the tensor
+    shares the memory of an int64 array.
 
     >>> run(array([1, 2], ndmin=2)).nested()
     [[1, 2]]
@@ -31,7 +32,7 @@ def array(values: Any, dtype: Any = None, copy: Any = True, ndmin: int = 0) -> E
 
 
 def asarray(values: Any, dtype: Any = None) -> Expr:
-    """A tensor; an expression stays what it is.
+    """Returns a tensor. An expression stays as it is.
 
     >>> run(asarray([1, 2])).values
     [1, 2]
@@ -43,7 +44,7 @@ asanyarray = ascontiguousarray = asfortranarray = asarray
 
 
 def copy(x: Any) -> Expr:
-    """A tensor with values of its own; an expression stays what it is.
+    """Returns a tensor with values of its own. An expression stays as it is.
 
     >>> copy([1, 2]).values
     [1, 2]
@@ -53,7 +54,7 @@ def copy(x: Any) -> Expr:
 
 
 def arange(start: int = 0, stop: Optional[int] = None, step: int = 1, dtype: Any = None) -> Expr:
-    """The numbers from one to another, without that, by steps.
+    """Returns the whole numbers in [start, stop), by steps. Without `stop`, the numbers in [0, start).
 
     >>> arange(2, 9, 3).values
     [2, 5, 8]
@@ -63,8 +64,7 @@ def arange(start: int = 0, stop: Optional[int] = None, step: int = 1, dtype: Any
 
 
 def full(shape: Any, fill_value: Any, dtype: Any = None) -> Expr:
-    """A tensor of these dims with this value at every place; the request has it once. A list of
-    values is repeated over the dims.
+    """Returns an expression of these dims with this value at every place. A list of values is broadcast.
 
     >>> run(full((2, 2), 7)).nested(), run(full((2, 2), [1, 2])).nested()
     ([[7, 7], [7, 7]], [[1, 2], [1, 2]])
@@ -75,7 +75,7 @@ def full(shape: Any, fill_value: Any, dtype: Any = None) -> Expr:
 
 
 def zeros(shape: Any, dtype: Any = None) -> Expr:
-    """A tensor of these dims, 0 at every place.
+    """Returns an expression of these dims, 0 at every place.
 
     >>> run(zeros((2, 3))).nested()
     [[0, 0, 0], [0, 0, 0]]
@@ -84,7 +84,7 @@ def zeros(shape: Any, dtype: Any = None) -> Expr:
 
 
 def ones(shape: Any, dtype: Any = None) -> Expr:
-    """A tensor of these dims, 1 at every place.
+    """Returns an expression of these dims, 1 at every place.
 
     >>> run(ones(3)).values
     [1, 1, 1]
@@ -92,12 +92,12 @@ def ones(shape: Any, dtype: Any = None) -> Expr:
     return full(shape, 1, dtype)
 
 
-# What numpy leaves as it is found is 0 here.
+# numpy leaves these values undefined, and here they are 0.
 empty = zeros
 
 
 def full_like(x: Any, fill_value: Any, dtype: Any = None, shape: Any = None) -> Expr:
-    """This value at every place, in the dims of x.
+    """Returns an expression with the dims of x, or of `shape`, and this value at every place.
 
     >>> run(full_like([1, 2], 7)).values
     [7, 7]
@@ -108,7 +108,7 @@ def full_like(x: Any, fill_value: Any, dtype: Any = None, shape: Any = None) -> 
 
 
 def zeros_like(x: Any, dtype: Any = None, shape: Any = None) -> Expr:
-    """0 at every place, in the dims of x.
+    """Returns an expression with the dims of x, or of `shape`, 0 at every place.
 
     >>> run(zeros_like([1, 2])).values
     [0, 0]
@@ -117,7 +117,7 @@ def zeros_like(x: Any, dtype: Any = None, shape: Any = None) -> Expr:
 
 
 def ones_like(x: Any, dtype: Any = None, shape: Any = None) -> Expr:
-    """1 at every place, in the dims of x.
+    """Returns an expression with the dims of x, or of `shape`, 1 at every place.
 
     >>> run(ones_like([5, 6])).values
     [1, 1]
@@ -128,11 +128,11 @@ def ones_like(x: Any, dtype: Any = None, shape: Any = None) -> Expr:
 empty_like = zeros_like
 
 
-# Places as values.
+# Offsets as values.
 
 
 def indices(dimensions: Any) -> Expr:
-    """The indices of these dims along each axis, one behind another.
+    """Returns the offsets along each axis of these dims, axis by axis along a new first axis.
 
     >>> run(indices((2, 2))).nested()
     [[[0, 0], [1, 1]], [[0, 1], [0, 1]]]
@@ -144,8 +144,8 @@ def indices(dimensions: Any) -> Expr:
 
 
 def meshgrid(*axes: Any, indexing: str = "xy", sparse: bool = False) -> List[Expr]:
-    """The values of each list along an axis of its own; the first two axes change their places
-    where `indexing` is "xy".
+    """Returns each list along an axis of its own, repeated along the others unless `sparse`. With "xy"
+    the first two axes are swapped. Raises ValueError for another indexing.
 
     >>> [run(it).nested() for it in meshgrid([1, 2], [3, 4])]
     [[[1, 2], [1, 2]], [[3, 3], [4, 4]]]

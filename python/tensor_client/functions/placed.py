@@ -1,5 +1,4 @@
-"""Other values at some places: x.at[i].set(v) and x.at[i].add(v). A tensor isn't written; these make
-another one."""
+"""Other values at some places: x.at[i].set(v) and x.at[i].add(v). They return a new expression."""
 
 from __future__ import annotations
 
@@ -14,7 +13,7 @@ from .rearranged import broadcast_to
 
 
 class Places:
-    """The places of an expression that an index names, which are to have other values."""
+    """The places of an expression that an index names, which are to get other values."""
 
     def __init__(self, expr: Expr, index: Tuple[Any, ...] = ()) -> None:
         self.expr, self.index = expr, index
@@ -23,7 +22,7 @@ class Places:
         return Places(self.expr, index if isinstance(index, tuple) else (index,))
 
     def set(self, values: Any) -> Expr:
-        """These values there, and all others as they are; the last of several at one place.
+        """Returns the expression with these values at the places. The last of several at a place counts.
 
         >>> run(tensor([1, 2, 3]).at[1:].set([7, 8])).values
         [1, 7, 8]
@@ -33,7 +32,8 @@ class Places:
         return where(which.lt(0), self.expr, given.taken(which, 0))
 
     def add(self, values: Any) -> Expr:
-        """These values more there, all of several at one place; for these the values are run.
+        """Returns the expression with these values added at the places. If a place is named several
+        times, all its values are added, and they run for that.
 
         >>> run(tensor([1, 2, 3]).at[[0, 0, 2]].add(10)).values
         [21, 2, 13]
@@ -46,14 +46,14 @@ class Places:
         return self.expr.add(total.reshape(self.expr.shape))
 
     def places(self) -> Tensor:
-        """The places that are named, counted in numpy's order. An index that hasn't run is run."""
+        """Returns the named places, counted in C order. An expression in the index runs."""
         shape = self.expr.shape
         index = tuple([it._answered() if isinstance(it, Expr) else it for it in self.index])
         found: Tensor = tensor(range(self.expr.size)).reshape(shape)[index]._answered()
         return found
 
     def which(self, places: Tensor) -> Expr:
-        """Which of the values stands at each place of the expression, and -1 at the others."""
+        """Returns which of the values goes to each place of the expression, and -1 for none."""
         if numpy is not None:
             array = numpy.full(self.expr.size, -1)
             array[places.array().ravel()] = numpy.arange(places.size)

@@ -1,4 +1,4 @@
-"""Sums of products, as numpy's functions of these names have them."""
+"""Sums of products, as numpy's functions with these names."""
 
 from __future__ import annotations
 
@@ -21,12 +21,12 @@ __all__ = [
     "matrix_power", "multi_dot", "outer", "tensordot", "vdot", "vecdot",
 ]
 
-# From so many products on, a contraction of two matrices takes less than its products, summed.
+# From this many products on, a contraction is faster than a sum over products.
 LEAST_PRODUCTS = 1 << 15
 
 
 def contract(x: Any, y: Any, pairs: Sequence[Any]) -> Expr:
-    """The sums of products over paired axes, each pair an axis of x and one of y.
+    """Returns the sums of products over paired axes, each pair an axis of x and an axis of y.
 
     >>> run(contract([[1, 2], [3, 4]], [5, 6], [(1, 0)])).values
     [17, 39]
@@ -35,7 +35,7 @@ def contract(x: Any, y: Any, pairs: Sequence[Any]) -> Expr:
 
 
 def tensordot(x: Any, y: Any, axes: Any = 2) -> Expr:
-    """numpy's tensordot: by how many axes, or by two lists of axes.
+    """Returns numpy's tensordot: over this many axes, or over two lists of axes.
 
     >>> run(tensordot([[1, 2], [3, 4]], [[5, 6], [7, 8]], axes=([0], [1]))).nested()
     [[23, 31], [34, 46]]
@@ -51,7 +51,7 @@ def tensordot(x: Any, y: Any, axes: Any = 2) -> Expr:
 
 
 def dot(x: Any, y: Any) -> Expr:
-    """numpy's dot: the sums of products over the last axis of x and the last but one of y.
+    """Returns numpy's dot: the sums of products over the last axis of x and the last but one of y.
 
     >>> run(dot([[1, 2], [3, 4]], [5, 6])).values
     [17, 39]
@@ -63,15 +63,15 @@ def dot(x: Any, y: Any) -> Expr:
 
 
 def matmul(x: Any, y: Any) -> Expr:
-    """numpy's x @ y: a contraction; and of two stacks, since a contraction pairs no axis that it
-    keeps, one for each two large matrices, or the products of all pairs of numbers, summed.
+    """Returns numpy's x @ y, as a contraction. A contraction keeps no paired axis. So two stacks are one
+    contraction for each pair of large matrices, or a sum over all products. Raises ShapeMismatch.
 
     >>> matmul(ones((5, 2, 3)), ones((5, 3, 4))).dims
     (5, 2, 4)
     """
     left, right = an_expr(x), an_expr(y)
     if not left.shape or not right.shape:
-        raise ShapeMismatch("x @ y asks for axes: x * y multiplies by a number")
+        raise ShapeMismatch("x @ y needs axes: x * y multiplies by a number")
     if left.ndim == 1 or right.ndim <= 2:
         return dot(left, right)
     if left.ndim == 2:
@@ -89,12 +89,12 @@ def matmul(x: Any, y: Any) -> Expr:
 
 
 def summed(products: Expr, axis: int) -> Expr:
-    """The sums of products; of truth values these are truth values."""
+    """Returns the sums of products along an axis. For truth values they are truth values."""
     return products.any(axis=axis) if products.truth else products.sum(axis=axis)
 
 
 def vecdot(x1: Any, x2: Any, axis: int = -1) -> Expr:
-    """The sums of products along an axis of both.
+    """Returns the sums of products along an axis of both.
 
     >>> run(vecdot([[1, 2], [3, 4]], [5, 6])).values
     [17, 39]
@@ -103,7 +103,7 @@ def vecdot(x1: Any, x2: Any, axis: int = -1) -> Expr:
 
 
 def outer(a: Any, b: Any) -> Expr:
-    """The products of each value with each of the other's.
+    """Returns the products of each value of a and each value of b, both in C order.
 
     >>> run(outer([1, 2], [3, 4])).nested()
     [[3, 4], [6, 8]]
@@ -112,7 +112,7 @@ def outer(a: Any, b: Any) -> Expr:
 
 
 def inner(a: Any, b: Any) -> Expr:
-    """The sums of products over the last axis of both.
+    """Returns the sums of products over the last axis of both.
 
     >>> run(inner([1, 2], [3, 4])).item()
     11
@@ -124,7 +124,7 @@ def inner(a: Any, b: Any) -> Expr:
 
 
 def vdot(a: Any, b: Any) -> Expr:
-    """The sum of the products of all values, as they stand in numpy's order.
+    """Returns the sum of the products of all values, both in C order.
 
     >>> run(vdot([[1, 2], [3, 4]], [[5, 6], [7, 8]])).item()
     70
@@ -133,7 +133,7 @@ def vdot(a: Any, b: Any) -> Expr:
 
 
 def kron(a: Any, b: Any) -> Expr:
-    """The other's values in the place of each value, times it.
+    """Returns the Kronecker product: all values of b times each value of a, in the place of that.
 
     >>> run(kron([1, 10], [1, 2])).values
     [1, 2, 10, 20]
@@ -141,14 +141,14 @@ def kron(a: Any, b: Any) -> Expr:
     left, right = an_expr(a), an_expr(b)
     rank = max(left.ndim, right.ndim)
     ours, theirs = ([1] * (rank - it.ndim) + [*it.shape] for it in (left, right))
-    # Column-major, the other's axis stands before ours.
+    # In column-major order, the axis of b comes before the axis of a.
     wide = left.in_dims([it for dim in ours for it in (1, dim)])
     each = right.in_dims([it for dim in theirs for it in (dim, 1)])
     return wide.mul(each).in_dims([it * other for it, other in zip(ours, theirs)])
 
 
 def cross(a: Any, b: Any, axis: int = -1) -> Expr:
-    """The cross product of vectors of three numbers along an axis, or of two.
+    """Returns the cross products along an axis: vectors for vectors of three numbers, numbers for two.
 
     >>> run(cross([1, 0, 0], [0, 1, 0])).values
     [0, 0, 1]
@@ -165,17 +165,18 @@ def cross(a: Any, b: Any, axis: int = -1) -> Expr:
 
 
 def matrix_power(a: Any, n: int) -> Expr:
-    """A matrix, or each of a stack, times itself so often, by its squares. A text has the matrix so
-    often: there large powers are run by squares, as the program of powers does.
+    """Returns the power of a square matrix, or of each matrix of a stack, by squares. A text has the
+    matrix n times, so run large powers by squares there, as the program of powers does. Raises
+    ShapeMismatch, and ValueError for n below 0.
 
     >>> run(matrix_power([[1, 1], [1, 0]], 10)).nested()
     [[89, 55], [55, 34]]
     """
     expr, times = an_expr(a), whole(n)
     if expr.ndim < 2 or expr.shape[-1] != expr.shape[-2]:
-        raise ShapeMismatch(f"a power of dims {expr.shape}, which are no square matrix's")
+        raise ShapeMismatch(f"a power needs a square matrix, and not dims {expr.shape}")
     if times < 0:
-        raise ValueError("whole numbers have no inverse")
+        raise ValueError("a matrix of whole numbers has no inverse")
     if times == 0:
         return broadcast_to(eye(expr.shape[-1]), expr.shape)
     found: List[Expr] = []
@@ -189,23 +190,23 @@ def matrix_power(a: Any, n: int) -> Expr:
 
 
 def multi_dot(arrays: Sequence[Any]) -> Expr:
-    """The product of several matrices, from the first on.
+    """Returns the product of several matrices, from left to right. Raises ValueError for fewer than two.
 
     >>> run(multi_dot([[1, 2], [[1, 0], [0, 1]], [3, 4]])).item()
     11
     """
     exprs = [an_expr(it) for it in arrays]
     if len(exprs) < 2:
-        raise ValueError("multi_dot of less than two")
+        raise ValueError("multi_dot needs two arrays or more")
     return functools.reduce(dot, exprs)
 
 
-# Slid along one another.
+# One list slides along another.
 
 
 def correlate(a: Any, v: Any, mode: str = "valid") -> Expr:
-    """The sums of products of a list and what lies under it: where all of the shorter one does
-    ("valid"), as many as the longer one has ("same"), or wherever any does ("full").
+    """Returns numpy's correlate of two lists: the sums of products where all of the shorter list lies on
+    the longer ("valid"), as many as the longer list has ("same"), or wherever they overlap ("full").
 
     >>> run(correlate([1, 2, 3], [1, 10])).values
     [21, 32]
@@ -224,8 +225,8 @@ def correlate(a: Any, v: Any, mode: str = "valid") -> Expr:
 
 
 def convolve(a: Any, v: Any, mode: str = "full") -> Expr:
-    """numpy's convolve of two lists, which turns the second one round; the method x.convolve slides
-    a kernel along axes, and doesn't turn it.
+    """Returns numpy's convolve of two lists, which reverses the second one. The method x.convolve slides
+    a kernel along axes, and doesn't reverse it.
 
     >>> run(convolve([1, 2, 3], [1, 10])).values
     [1, 12, 23, 30]

@@ -1,5 +1,4 @@
-"""The same values in other dims, orders and numbers, as numpy's functions of these names have
-them."""
+"""Values in other dims, orders and numbers, as numpy's functions with these names."""
 
 from __future__ import annotations
 
@@ -24,7 +23,7 @@ __all__ = [
 
 
 def reshape(x: Any, shape: Any, order: str = "C") -> Expr:
-    """The same values in other dims, as the method.
+    """Returns the values in other dims, as the method.
 
     >>> run(reshape([[1, 2], [3, 4], [5, 6]], (2, -1))).nested()
     [[1, 2, 3], [4, 5, 6]]
@@ -33,7 +32,7 @@ def reshape(x: Any, shape: Any, order: str = "C") -> Expr:
 
 
 def ravel(x: Any, order: str = "C") -> Expr:
-    """The values along one axis.
+    """Returns the values along one axis, in C order, or in column-major order with order="F".
 
     >>> run(ravel([[1, 2], [3, 4]])).values
     [1, 2, 3, 4]
@@ -42,7 +41,7 @@ def ravel(x: Any, order: str = "C") -> Expr:
 
 
 def resize(a: Any, new_shape: Any) -> Expr:
-    """The values in other dims, again from the first where there are too few.
+    """Returns the values in other dims, repeated if they are too few. Raises ValueError without values.
 
     >>> run(resize([1, 2, 3], (2, 4))).nested()
     [[1, 2, 3, 1], [2, 3, 1, 2]]
@@ -51,7 +50,7 @@ def resize(a: Any, new_shape: Any) -> Expr:
     sizes = rules.legal(rules.sizes(numbers_of(new_shape)))
     count = rules.product(sizes)
     if count and not line.size:
-        raise ValueError("nothing fills no place")
+        raise ValueError("no values can't fill these dims")
     return part(tile(line, -(-count // max(line.size, 1))), 0, 0, count).reshape(sizes)
 
 
@@ -59,7 +58,7 @@ def resize(a: Any, new_shape: Any) -> Expr:
 
 
 def transpose(x: Any, axes: Any = None) -> Expr:
-    """The axes in this order, or from the last to the first.
+    """Returns x with its axes in this order; without axes, in reverse order.
 
     >>> run(transpose([[1, 2], [3, 4]])).nested()
     [[1, 3], [2, 4]]
@@ -71,7 +70,7 @@ permute_dims = transpose
 
 
 def matrix_transpose(x: Any) -> Expr:
-    """The last two axes, one in the other's place.
+    """Returns x with its last two axes swapped.
 
     >>> matrix_transpose([[[1, 2, 3]]]).dims
     (1, 3, 1)
@@ -80,7 +79,7 @@ def matrix_transpose(x: Any) -> Expr:
 
 
 def swapaxes(a: Any, axis1: int, axis2: int) -> Expr:
-    """Two axes, one in the other's place.
+    """Returns a with two axes swapped.
 
     >>> swapaxes([[[1, 2, 3]]], 0, 2).dims
     (3, 1, 1)
@@ -93,7 +92,7 @@ def swapaxes(a: Any, axis1: int, axis2: int) -> Expr:
 
 
 def moveaxis(a: Any, source: Any, destination: Any) -> Expr:
-    """Axes moved to other places; the others keep their order.
+    """Returns a with axes moved to other places. The other axes keep their order.
 
     >>> moveaxis([[[1, 2, 3]]], -1, 0).dims
     (3, 1, 1)
@@ -109,20 +108,20 @@ def moveaxis(a: Any, source: Any, destination: Any) -> Expr:
 
 
 def rollaxis(a: Any, axis: int, start: int = 0) -> Expr:
-    """One axis moved before another.
+    """Returns a with one axis moved before another.
 
     >>> rollaxis([[[1, 2, 3]]], 2).dims
     (3, 1, 1)
     """
     expr = an_expr(a)
     along, to = rules.axis_of(whole(axis), expr.ndim), whole(start)
-    # The place behind the last axis has a number too, and none from behind.
+    # The place after the last axis has a number from 0 on, and no negative one.
     to = to if to == expr.ndim else rules.axis_of(to, expr.ndim)
     return moved(expr, along, to - 1 if along < to else to)
 
 
 def squeeze(a: Any, axis: Any = None) -> Expr:
-    """Without the axes of one place, or without these.
+    """Returns a without its axes of length 1, or without these. Raises ShapeMismatch for longer axes.
 
     >>> squeeze([[[1], [2]]]).dims
     (2,)
@@ -137,7 +136,7 @@ def squeeze(a: Any, axis: Any = None) -> Expr:
 
 
 def expand_dims(a: Any, axis: Any) -> Expr:
-    """With new axes of one place.
+    """Returns a with new axes of length 1 at these places.
 
     >>> expand_dims([1, 2], 0).dims
     (1, 2)
@@ -149,13 +148,13 @@ def expand_dims(a: Any, axis: Any) -> Expr:
 
 
 def with_axes(x: Any, rank: int) -> Expr:
-    """With new axes of one place before, up to so many axes."""
+    """Returns x with new first axes of length 1, up to this many axes."""
     expr = an_expr(x)
     return expr if expr.ndim >= rank else expr.in_dims([1] * (rank - expr.ndim) + [*expr.shape])
 
 
 class OneOrAll(Protocol):
-    """What gives an expression of one part, and a list of those of several."""
+    """A function that returns an expression for one part, and a list of expressions for several."""
 
     @overload
     def __call__(self, part: Any, /) -> Expr: ...
@@ -175,16 +174,16 @@ def at_least(rank: int, what: str, example: str, wanted: str) -> OneOrAll:
     return made
 
 
-atleast_1d = at_least(1, "Each with an axis at least.", "5", "[5]")
-atleast_2d = at_least(2, "Each with two axes at least, new ones before.", "[5, 6]", "[5, 6]")
-atleast_3d = at_least(3, "Each with three axes, the last of two axes first.", "[5, 6]", "[5, 6]")
+atleast_1d = at_least(1, "Returns each part with an axis at least.", "5", "[5]")
+atleast_2d = at_least(2, "Returns each part with two axes at least; new ones come first.", "[5, 6]", "[5, 6]")
+atleast_3d = at_least(3, "Returns each part with three axes at least; a matrix gets a last one.", "[5, 6]", "[5, 6]")
 
 
-# Repeated.
+# Repetition.
 
 
 def broadcast_to(array: Any, shape: Any) -> Expr:
-    """Repeated over dims by numpy's rule.
+    """Returns an expression, broadcast to these dims. Raises ShapeMismatch if it doesn't fit.
 
     >>> run(broadcast_to([1, 2], (2, 2))).nested()
     [[1, 2], [1, 2]]
@@ -197,7 +196,7 @@ def broadcast_to(array: Any, shape: Any) -> Expr:
 
 
 def broadcast_arrays(*parts: Any) -> List[Expr]:
-    """All parts, repeated over the dims that fit all.
+    """Returns all parts, broadcast to the dims that fit all. Raises ShapeMismatch.
 
     >>> [it.dims for it in broadcast_arrays([1, 2], [[3], [4]])]
     [(2, 2), (2, 2)]
@@ -206,7 +205,7 @@ def broadcast_arrays(*parts: Any) -> List[Expr]:
 
 
 def broadcast_shapes(*shapes: Any) -> Dims:
-    """The dims that fit all of these.
+    """Returns the dims to which numpy broadcasts these dims. Raises ShapeMismatch.
 
     >>> broadcast_shapes((2, 1), (3,))
     (2, 3)
@@ -216,7 +215,7 @@ def broadcast_shapes(*shapes: Any) -> Dims:
 
 
 def tile(A: Any, reps: Any) -> Expr:
-    """Repeated so often along each axis, the last ones first.
+    """Returns A, repeated this many times along each axis. Fewer counts than axes are for the last axes.
 
     >>> run(tile([1, 2], (2, 2))).nested()
     [[1, 2, 1, 2], [1, 2, 1, 2]]
@@ -224,7 +223,7 @@ def tile(A: Any, reps: Any) -> Expr:
     counts = rules.sizes(numbers_of(reps))
     expr = with_axes(A, len(counts))
     counts = [1] * (expr.ndim - len(counts)) + counts
-    # None of what is repeated no times is taken.
+    # An axis that is repeated 0 times becomes empty.
     kept = [it if count else 0 for it, count in zip(expr.shape, counts)]
     if kept != [*expr.shape]:
         expr = expr.slice([0] * expr.ndim, kept)
@@ -232,8 +231,8 @@ def tile(A: Any, reps: Any) -> Expr:
 
 
 def repeat(a: Any, repeats: Any, axis: Any = None) -> Expr:
-    """Each value so often, along an axis or along one of all values; or as often as a list says of
-    each.
+    """Returns each value this many times, along an axis or in all values. `repeats` is one count, or a
+    list with a count for each value.
 
     >>> run(repeat([1, 2], 2)).values, run(repeat([1, 2], [1, 3])).values
     ([1, 1, 2, 2], [1, 2, 2, 2])
@@ -248,17 +247,17 @@ def repeat(a: Any, repeats: Any, axis: Any = None) -> Expr:
             raise ShapeMismatch(f"{len(counts)} counts for {dims[along]} places")
         return take(expr, [at for at, it in enumerate(counts) for _ in range(it)], along)
     often = counts[0]
-    # Column-major, an axis before this one goes over the places between two of its values.
+    # In column-major order, an axis before this one repeats each of its values.
     wide = expr.in_dims(beside_axis(dims, along, [1, dims[along]]))
     found = tile(wide, [often if at == along else 1 for at in range(wide.ndim)])
     return found.in_dims(beside_axis(dims, along, [often * dims[along]]))
 
 
-# Turned.
+# Other orders.
 
 
 def flip(m: Any, axis: Any = None) -> Expr:
-    """From the other end, along these axes or along all.
+    """Returns m in reverse order, along these axes or along all.
 
     >>> run(flip([[1, 2], [3, 4]], 1)).nested()
     [[2, 1], [4, 3]]
@@ -276,7 +275,7 @@ def of_two_axes(m: Any) -> Expr:
 
 
 def fliplr(m: Any) -> Expr:
-    """The columns from the last to the first.
+    """Returns m with its columns in reverse order.
 
     >>> run(fliplr([[1, 2], [3, 4]])).nested()
     [[2, 1], [4, 3]]
@@ -285,7 +284,7 @@ def fliplr(m: Any) -> Expr:
 
 
 def flipud(m: Any) -> Expr:
-    """The rows from the last to the first.
+    """Returns m with its rows in reverse order.
 
     >>> run(flipud([[1, 2], [3, 4]])).nested()
     [[3, 4], [1, 2]]
@@ -294,7 +293,7 @@ def flipud(m: Any) -> Expr:
 
 
 def rot90(m: Any, k: int = 1, axes: Tuple[int, int] = (0, 1)) -> Expr:
-    """Turned by so many quarters, from the first of two axes towards the second.
+    """Returns m, rotated k times by 90 degrees, from the first of two axes towards the second.
 
     >>> run(rot90([[1, 2], [3, 4]])).nested()
     [[2, 4], [1, 3]]
@@ -307,7 +306,7 @@ def rot90(m: Any, k: int = 1, axes: Tuple[int, int] = (0, 1)) -> Expr:
 
 
 def roll(a: Any, shift: Any, axis: Any = None) -> Expr:
-    """Moved along axes; what leaves at one end comes in at the other.
+    """Returns a, shifted along axes. Values that leave at one end enter at the other.
 
     >>> run(roll([1, 2, 3, 4], 1)).values
     [4, 1, 2, 3]
@@ -323,8 +322,8 @@ def roll(a: Any, shift: Any, axis: Any = None) -> Expr:
 
 
 def rolled(expr: Expr, begins: Sequence[int]) -> Expr:
-    """From other offsets on along each axis: of few values, or of a long expression, what stands
-    twice in a row along these; or else blocks, which the request reads as they lie."""
+    """Returns an expression that begins at other offsets along each axis. A small or long expression is
+    repeated and sliced. Otherwise blocks are joined, which the request reads as they lie."""
     from .chosen import MOST_IN_PARTS, in_blocks
 
     dims = expr.shape
@@ -342,7 +341,7 @@ def rolled(expr: Expr, begins: Sequence[int]) -> Expr:
 
 
 def shape(a: Any) -> Dims:
-    """The dims.
+    """Returns the dims.
 
     >>> shape([[1, 2, 3]])
     (1, 3)
@@ -351,7 +350,7 @@ def shape(a: Any) -> Dims:
 
 
 def ndim(a: Any) -> int:
-    """How many axes there are.
+    """Returns the number of axes.
 
     >>> ndim([[1, 2, 3]])
     2
@@ -360,7 +359,7 @@ def ndim(a: Any) -> int:
 
 
 def size(a: Any, axis: Optional[int] = None) -> int:
-    """How many places there are, or how many along an axis.
+    """Returns the number of values, or the length of an axis.
 
     >>> size([[1, 2, 3]]), size([[1, 2, 3]], 0)
     (3, 1)

@@ -1,4 +1,4 @@
-"""numpy's functions that make fewer values of many."""
+"""numpy's functions that combine many values into fewer."""
 
 from __future__ import annotations
 
@@ -20,7 +20,7 @@ __all__ = [
 
 
 class Combining(Protocol):
-    """A reduction over these axes, or over all."""
+    """A reduction along these axes, or along all."""
 
     def __call__(
         self, x: Any, axis: Any = None, keepdims: bool = False, dtype: Any = None, out: None = None,
@@ -39,13 +39,13 @@ def combining(name: str) -> Combining:
     return made
 
 
-# As numpy's functions of these names; inside this module the builtins aren't needed.
+# numpy's names. This module doesn't need the builtins.
 sum, prod, max, min, all, any = map(combining, ("sum", "prod", "max", "min", "all", "any"))
 amax, amin = max, min
 
 
 def count_nonzero(a: Any, axis: Any = None, keepdims: bool = False) -> Expr:
-    """How many values aren't 0.
+    """Returns how many values aren't 0, along these axes or along all.
 
     >>> run(count_nonzero([0, 5, 7])).item()
     2
@@ -55,7 +55,7 @@ def count_nonzero(a: Any, axis: Any = None, keepdims: bool = False) -> Expr:
 
 
 def ptp(a: Any, axis: Any = None, keepdims: bool = False) -> Expr:
-    """The greatest value less the least.
+    """Returns the greatest value minus the least, along these axes or along all.
 
     >>> run(ptp([3, 9, 5])).item()
     6
@@ -65,7 +65,7 @@ def ptp(a: Any, axis: Any = None, keepdims: bool = False) -> Expr:
 
 
 def array_equal(a1: Any, a2: Any) -> Expr:
-    """1 where the dims are the same, and all values, else 0.
+    """Returns 1 if the dims and all values are equal, else 0.
 
     >>> bool(array_equal([1, 2], [1, 2]))
     True
@@ -75,7 +75,7 @@ def array_equal(a1: Any, a2: Any) -> Expr:
 
 
 def array_equiv(a1: Any, a2: Any) -> Expr:
-    """1 where all values are the same, repeated where dims differ, else 0.
+    """Returns 1 if all values are equal after broadcasting, else 0.
 
     >>> bool(array_equiv([1, 1], 1))
     True
@@ -87,7 +87,8 @@ def array_equiv(a1: Any, a2: Any) -> Expr:
 
 
 def argmax(a: Any, axis: Any = None, out: None = None, keepdims: bool = False) -> Expr:
-    """The offset of the greatest value along an axis, or in all values; the first of several.
+    """Returns the offset of the greatest value along an axis, or in all values in C order. Of equal
+    values it is the first. Raises ValueError for an empty axis.
 
     >>> run(argmax([3, 9, 9])).item()
     1
@@ -96,7 +97,8 @@ def argmax(a: Any, axis: Any = None, out: None = None, keepdims: bool = False) -
 
 
 def argmin(a: Any, axis: Any = None, out: None = None, keepdims: bool = False) -> Expr:
-    """The offset of the least value along an axis, or in all values; the first of several.
+    """Returns the offset of the least value along an axis, or in all values in C order. Of equal values
+    it is the first. Raises ValueError for an empty axis.
 
     >>> run(argmin([3, 1, 1])).item()
     1
@@ -108,17 +110,17 @@ def first_offset(operation: str, a: Any, axis: Any, out: None, keepdims: bool) -
     written_nowhere(out)
     expr, at = flat(a, axis)
     if not expr.shape[at]:
-        raise ValueError(f"{operation} of nothing")
+        raise ValueError(f"{operation} of an empty axis")
     found = expr.along(operation, at)
     kept = [1] * an_expr(a).ndim if axis is None else beside_axis(expr.shape, at, [1])
     return found.in_dims(kept) if keepdims else found
 
 
-# Over an axis.
+# Along an axis.
 
 
 def diff(a: Any, n: int = 1, axis: int = -1, prepend: Any = None, append: Any = None) -> Expr:
-    """The differences of neighbours along an axis, and of these, so often.
+    """Returns the n-th differences along an axis, with `prepend` before and `append` after the values.
 
     >>> run(diff([1, 4, 9, 16])).values, run(diff([1, 4, 9, 16], 2)).values
     ([3, 5, 7], [2, 2])
@@ -140,7 +142,7 @@ def diff(a: Any, n: int = 1, axis: int = -1, prepend: Any = None, append: Any = 
             length = expr.shape[along]
             expr = part(expr, along, 1, length).ne(part(expr, along, 0, length - 1))
         return expr
-    # One product with what the differences come to: 1 -1, 1 -2 1, and so on.
+    # One convolution, with the weights of the n-th differences: 1 -1, 1 -2 1, and so on.
     weights = [1]
     for _ in range(times):
         weights = [(x - y + 2**63) % 2**64 - 2**63 for x, y in zip([0, *weights], [*weights, 0])]
@@ -148,7 +150,7 @@ def diff(a: Any, n: int = 1, axis: int = -1, prepend: Any = None, append: Any = 
 
 
 def ediff1d(ary: Any, to_end: Any = None, to_begin: Any = None) -> Expr:
-    """The differences of neighbours in all values, with values before and behind.
+    """Returns the differences of neighbours in all values, with other values before and after them.
 
     >>> run(ediff1d([1, 4, 9], to_end=0)).values
     [3, 5, 0]

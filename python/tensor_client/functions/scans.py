@@ -1,5 +1,5 @@
-"""What values come to up to each place of an axis, as numpy's cumsum and cumprod have it; and as
-texts do, which have no operation for it."""
+"""Sums and products of all values up to each place of an axis: numpy's cumsum and cumprod, and what
+replaces them in texts."""
 
 from __future__ import annotations
 
@@ -18,7 +18,7 @@ __all__ = [
 
 
 def cumsum(a: Any, axis: Any = None, dtype: Any = None, out: None = None) -> Expr:
-    """The sum of each value and all before it along an axis, or in all values.
+    """Returns the sum of each value and all before it, along an axis or in all values in C order.
 
     >>> run(cumsum([1, 2, 3])).values
     [1, 3, 6]
@@ -27,7 +27,7 @@ def cumsum(a: Any, axis: Any = None, dtype: Any = None, out: None = None) -> Exp
 
 
 def cumprod(a: Any, axis: Any = None, dtype: Any = None, out: None = None) -> Expr:
-    """The product of each value and all before it along an axis, or in all values.
+    """Returns the product of each value and all before it, along an axis or in all values in C order.
 
     >>> run(cumprod([1, 2, 3])).values
     [1, 2, 6]
@@ -42,7 +42,7 @@ def along(operation: str, a: Any, axis: Any, dtype: Any, out: None) -> Expr:
 
 
 def cumulative_sum(x: Any, axis: Any = None, dtype: Any = None) -> Expr:
-    """cumsum, which asks for the axis where there are several.
+    """Returns cumsum. Raises ValueError if there are several axes and none is named.
 
     >>> run(cumulative_sum([1, 2, 3])).values
     [1, 3, 6]
@@ -51,7 +51,7 @@ def cumulative_sum(x: Any, axis: Any = None, dtype: Any = None) -> Expr:
 
 
 def cumulative_prod(x: Any, axis: Any = None, dtype: Any = None) -> Expr:
-    """cumprod, which asks for the axis where there are several.
+    """Returns cumprod. Raises ValueError if there are several axes and none is named.
 
     >>> run(cumulative_prod([1, 2, 3])).values
     [1, 2, 6]
@@ -61,19 +61,19 @@ def cumulative_prod(x: Any, axis: Any = None, dtype: Any = None) -> Expr:
 
 def axis_asked(x: Any, axis: Any) -> Any:
     if axis is None and an_expr(x).ndim != 1:
-        raise ValueError(f"an axis has to be named, of dims {an_expr(x).shape}")
+        raise ValueError(f"name an axis of dims {an_expr(x).shape}")
     return axis
 
 
-# What texts have no operations for.
+# For texts, which have no such operations.
 
-# Up to so many pairs of places of a line go in one step, and else in rows of so many places: each
-# value takes as many products of a sum, and of others is repeated as often.
+# The most pairs of places in one step. More go in rows, of SUM_ROW places for sums, where a value takes
+# a product for each place of a row, and of OTHER_ROW places otherwise, where it is repeated for each.
 FEW_PAIRS, SUM_ROW, OTHER_ROW = 1 << 17, 32, 8
 
 
 class Scan(NamedTuple):
-    """How values are combined: each two, all along an axis, and what none come to."""
+    """How values are combined: the operation on two, the reduction, and its value for none."""
 
     two: str
     all: str
@@ -81,12 +81,12 @@ class Scan(NamedTuple):
 
     @property
     def is_repeated(self) -> bool:
-        """Whether each line of values is repeated over all pairs of two places; sums are a product
-        with a triangle of ones."""
+        """Whether each line of values is repeated over all pairs of two places. Sums are a product with
+        a triangle of ones instead."""
         return self.all != "sum"
 
     def upto(self, x: Expr) -> Expr:
-        """What values come to up to each place of the first axis."""
+        """Returns the combination of all values up to each place of the first axis."""
         length = x.shape[0]
         if not self.is_repeated:
             return tri(length).contract(x, [(1, 0)])
@@ -99,7 +99,7 @@ SUMS, PRODUCTS = Scan("add", "sum", 0), Scan("mul", "prod", 1)
 
 
 def scanned(scan: Scan, a: Any, axis: Any) -> Expr:
-    """What values come to up to each place of an axis.
+    """Returns the combination of all values up to each place of an axis.
 
     >>> run(scanned(SUMS, [3, 1, 4, 1, 5], 0)).values
     [3, 4, 8, 9, 14]
@@ -109,7 +109,7 @@ def scanned(scan: Scan, a: Any, axis: Any) -> Expr:
 
 
 def over_first(scan: Scan, x: Expr) -> Expr:
-    """The same of the first axis: over all pairs of its places, or in rows where these are many."""
+    """Combines along the first axis: over all pairs of its places, or in rows if these are many."""
     length, lines = x.shape[0], rules.product(x.shape[1:]) or 1
     is_much = length * length * lines > FEW_PAIRS
     row = row_length(length, lines, scan.is_repeated) if is_much else 0
@@ -117,22 +117,22 @@ def over_first(scan: Scan, x: Expr) -> Expr:
 
 
 def in_rows(scan: Scan, x: Expr, row: int) -> Expr:
-    """The same in steps: over rows of the first axis, and over what whole rows come to."""
+    """Combines along the first axis in steps: within rows, and over the combinations of whole rows."""
     length, *rest = x.shape
     rows, others = -(-length // row), [(0, 0)] * len(rest)
     filled = x.pad([(0, rows * row - length), *others], constant_values=scan.none)
     inner = scan.upto(filled.in_dims([row, rows, *rest]))
     totals = over_first(scan, part(inner, 0, row - 1, row).in_dims([rows, *rest]))
-    # Before each row stands what all rows before it come to.
+    # For each row, the combination of all rows before it.
     before = part(totals, 0, 0, rows - 1).pad([(1, 0), *others], constant_values=scan.none)
     found = getattr(inner, scan.two)(before.in_dims([1, rows, *rest]))
     return part(found.in_dims([rows * row, *rest]), 0, 0, length)
 
 
 def row_length(length: int, lines: int, is_repeated: bool) -> int:
-    """How long rows are, at most: where each line is repeated over the pairs of two places of a row,
-    so that these are few, or else as many as a tensor may have; for sums, so that the products are
-    no more than there may be. 0 where no length does.
+    """Returns the greatest length of a row, or 0 if no length fits. If lines are repeated over the pairs
+    of two places of a row, there are few pairs, or as many as a tensor may have. For sums, there are no
+    more products than a contraction may have.
 
     >>> row_length(5_000, 1, False), row_length(9_000, 1, True), row_length(5_000, 99_999, True)
     (32, 8, 0)

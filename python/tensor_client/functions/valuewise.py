@@ -1,4 +1,4 @@
-"""numpy's functions of each value, and of each two."""
+"""numpy's elementwise functions of one and of two values."""
 
 from __future__ import annotations
 
@@ -27,7 +27,7 @@ __all__ = [
 ]
 
 
-# The reductions that combine as a function of two values does.
+# The reductions that combine values by a function of two.
 REDUCED = {
     "add": "sum", "multiply": "prod", "maximum": "max", "minimum": "min", "logical_and": "all",
     "logical_or": "any",
@@ -37,7 +37,7 @@ LISTED: Dict[str, Callable[[int, int], int]] = {"maximum": builtins.max, "minimu
 
 
 class OfTwo(Protocol):
-    """A function of each two values, with what it has itself."""
+    """An elementwise function of two values, with its own functions."""
 
     def __call__(self, x1: Any, x2: Any, out: None = None) -> Expr: ...
 
@@ -51,7 +51,7 @@ class OfTwo(Protocol):
 
 
 def of_one(name: str, method: str, what: str, example: str, wanted: str) -> Callable[..., Expr]:
-    """A function of each value, by a method of expressions."""
+    """Returns an elementwise function of one value, by a method of expressions."""
 
     def function(x: Any, out: None = None) -> Any:
         written_nowhere(out)
@@ -62,9 +62,8 @@ def of_one(name: str, method: str, what: str, example: str, wanted: str) -> Call
 
 
 def of_two(name: str, method: str, what: str, example: str, wanted: str) -> OfTwo:
-    """A function of each two values, by a method of expressions. As numpy's have it has functions
-    of its own: `outer`, of each value with each, `reduce`, which combines all along an axis,
-    `accumulate`, up to each place of it, and `reduceat`, of its parts."""
+    """Returns an elementwise function of two values, by a method of expressions. It has functions of its
+    own: `outer` of each two values, `reduce` along an axis, `accumulate` up to each place, `reduceat`."""
 
     def function(x1: Any, x2: Any, out: None = None) -> Any:
         written_nowhere(out)
@@ -90,7 +89,7 @@ def of_two(name: str, method: str, what: str, example: str, wanted: str) -> OfTw
         return by_numpy(f"{name}.reduceat", an_expr(array), indices, axis)
 
     def refused(*_: Any, **more: Any) -> NoReturn:
-        raise TypeError("a tensor isn't written: x.at[i].add(v) is one with other values")
+        raise TypeError("a tensor isn't written into: x.at[i].add(v) returns one with other values")
 
     made = told(function, name, what, f"{name}({example})", wanted)
     made.outer, made.reduce, made.accumulate = outer, reduce, accumulate
@@ -99,25 +98,25 @@ def of_two(name: str, method: str, what: str, example: str, wanted: str) -> OfTw
     return found
 
 
-negative = of_one("negative", "neg", "The negated values: -x.", "[1, -2]", "[-1, 2]")
-absolute = of_one("absolute", "abs", "The absolute values.", "[1, -2]", "[1, 2]")
-square = of_one("square", "square", "Each value times itself.", "[1, -2]", "[1, 4]")
+negative = of_one("negative", "neg", "Returns the negated values: -x.", "[1, -2]", "[-1, 2]")
+absolute = of_one("absolute", "abs", "Returns the absolute values.", "[1, -2]", "[1, 2]")
+square = of_one("square", "square", "Returns each value squared.", "[1, -2]", "[1, 4]")
 logical_not = of_one("logical_not", "not_", "1 where a value is 0, else 0.", "[0, 5]", "[1, 0]")
 invert = of_one(
-    "invert", "__invert__", "Each bit turned: ~x. Of truth values 1 for 0.", "[0, 5]", "[-1, -6]"
+    "invert", "__invert__", "Returns ~x: each bit, or each truth value, inverted.", "[0, 5]", "[-1, -6]"
 )
 
-add = of_two("add", "add", "The sums: x + y.", "[1, 2], 3", "[4, 5]")
-subtract = of_two("subtract", "sub", "The differences: x - y.", "[1, 2], 3", "[-2, -1]")
-multiply = of_two("multiply", "mul", "The products: x * y.", "[1, 2], 3", "[3, 6]")
+add = of_two("add", "add", "Returns the sums: x + y.", "[1, 2], 3", "[4, 5]")
+subtract = of_two("subtract", "sub", "Returns the differences: x - y.", "[1, 2], 3", "[-2, -1]")
+multiply = of_two("multiply", "mul", "Returns the products: x * y.", "[1, 2], 3", "[3, 6]")
 maximum = of_two(
     "maximum", "cwise_max",
-    "The greater of each two values; the method x.maximum() is the greatest of all.", "[1, 5], 3",
+    "Returns the greater of two values. The method x.maximum() is the greatest of all.", "[1, 5], 3",
     "[3, 5]",
 )
 minimum = of_two(
     "minimum", "cwise_min",
-    "The lesser of each two values; the method x.minimum() is the least of all.", "[1, 5], [3, 4]",
+    "Returns the lesser of two values. The method x.minimum() is the least of all.", "[1, 5], [3, 4]",
     "[1, 4]",
 )
 less = of_two("less", "lt", "1 where x < y, else 0.", "[1, 2], 2", "[1, 0]")
@@ -130,30 +129,30 @@ logical_and = of_two(
     "logical_and", "and_", "1 where neither value is 0, else 0.", "[0, 5], 7", "[0, 1]"
 )
 logical_or = of_two(
-    "logical_or", "or_", "1 where one value is not 0, else 0.", "[0, 5], 0", "[0, 1]"
+    "logical_or", "or_", "1 where some value isn't 0, else 0.", "[0, 5], 0", "[0, 1]"
 )
 bitwise_and = of_two(
-    "bitwise_and", "__and__", "The bits that both have: x & y.", "[12, 5], 10", "[8, 0]"
+    "bitwise_and", "__and__", "Returns the bits that both have: x & y.", "[12, 5], 10", "[8, 0]"
 )
 bitwise_or = of_two(
-    "bitwise_or", "__or__", "The bits that one has: x | y.", "[12, 5], 10", "[14, 15]"
+    "bitwise_or", "__or__", "Returns the bits that either has: x | y.", "[12, 5], 10", "[14, 15]"
 )
 bitwise_xor = of_two(
-    "bitwise_xor", "__xor__", "The bits that one alone has: x ^ y.", "[12, 5], 10", "[6, 15]"
+    "bitwise_xor", "__xor__", "Returns the bits that only one has: x ^ y.", "[12, 5], 10", "[6, 15]"
 )
 left_shift = of_two(
-    "left_shift", "__lshift__", "x << n, by so many places.", "[1, -2], 3", "[8, -16]"
+    "left_shift", "__lshift__", "Returns x << n: x * 2**n.", "[1, -2], 3", "[8, -16]"
 )
 right_shift = of_two(
-    "right_shift", "__rshift__", "x >> n, by so many places.", "[9, -9], 1", "[4, -5]"
+    "right_shift", "__rshift__", "Returns x >> n: x // 2**n.", "[9, -9], 1", "[4, -5]"
 )
 floor_divide = of_two(
-    "floor_divide", "floor_divide", "The quotients, rounded down: x // y.", "[7, -7], 2", "[3, -4]"
+    "floor_divide", "floor_divide", "Returns x // y, rounded down.", "[7, -7], 2", "[3, -4]"
 )
 remainder = of_two(
-    "remainder", "remainder", "What those leave, of the sign of y: x % y.", "[7, -7], 2", "[1, 1]"
+    "remainder", "remainder", "Returns x % y, with the sign of y.", "[7, -7], 2", "[1, 1]"
 )
-power = of_two("power", "__pow__", "The powers: x**y.", "[2, 3], 5", "[32, 243]")
+power = of_two("power", "__pow__", "Returns the powers: x**y.", "[2, 3], 5", "[32, 243]")
 
 # By numpy's other names.
 abs, pow, bitwise_not, bitwise_invert = absolute, power, invert, invert
@@ -162,7 +161,7 @@ bitwise_left_shift, bitwise_right_shift = left_shift, right_shift
 
 
 def divmod(x1: Any, x2: Any) -> Tuple[Expr, Expr]:
-    """The quotients, rounded down, and what they leave.
+    """Returns the quotients, rounded down, and the remainders.
 
     >>> [run(it).values for it in divmod([7, -7], 2)]
     [[3, -4], [1, 1]]
@@ -171,7 +170,7 @@ def divmod(x1: Any, x2: Any) -> Tuple[Expr, Expr]:
 
 
 def logical_xor(x1: Any, x2: Any) -> Expr:
-    """1 where one of two values is 0 and the other isn't, else 0.
+    """Returns 1 where exactly one of two values is 0, and 0 elsewhere.
 
     >>> run(logical_xor([0, 5], 7)).values
     [1, 0]
@@ -180,7 +179,7 @@ def logical_xor(x1: Any, x2: Any) -> Expr:
 
 
 def positive(x: Any) -> Expr:
-    """The values as they are.
+    """Returns the values as they are.
 
     >>> run(positive([1, -2])).values
     [1, -2]
@@ -188,18 +187,18 @@ def positive(x: Any) -> Expr:
     return an_expr(x)
 
 
-# What numpy does to fractions and to imaginary parts, which whole numbers haven't.
+# For numpy these change fractions or imaginary parts, which whole numbers don't have.
 conj = conjugate = real = positive
 
 
 def round(x: Any, decimals: int = 0) -> Expr:
-    """The values as they are: whole numbers are round, to 0 places and to more.
+    """Returns the values as they are. Raises TypeError for decimals below 0.
 
     >>> run(round([14, 16])).values
     [14, 16]
     """
     if whole(decimals) < 0:
-        raise TypeError("the runtime rounds quotients down, and to no tens")
+        raise TypeError("rounding to tens isn't supported")
     return an_expr(x)
 
 
@@ -207,7 +206,7 @@ around = round
 
 
 def sign(x: Any) -> Expr:
-    """-1, 0 or 1, as a value is below 0, 0, or above.
+    """Returns -1, 0 or 1 for values below 0, 0, and above 0.
 
     >>> run(sign([-5, 0, 7])).values
     [-1, 0, 1]
@@ -216,7 +215,7 @@ def sign(x: Any) -> Expr:
 
 
 def signbit(x: Any) -> Expr:
-    """1 where a value is below 0, else 0.
+    """Returns 1 where a value is below 0, and 0 elsewhere.
 
     >>> run(signbit([-5, 0])).values
     [1, 0]
@@ -225,7 +224,7 @@ def signbit(x: Any) -> Expr:
 
 
 def clip(x: Any, a_min: Any = None, a_max: Any = None, min: Any = None, max: Any = None) -> Expr:
-    """The values, none of them below the one and above the other.
+    """Returns the values, limited to a range. Either limit may be left out.
 
     >>> run(clip([1, 5, 9], 2, 8)).values
     [2, 5, 8]
@@ -235,8 +234,8 @@ def clip(x: Any, a_min: Any = None, a_max: Any = None, min: Any = None, max: Any
 
 
 def astype(x: Any, dtype: Any) -> Any:
-    """The values as a dtype: as int64 what they are, as bool 1 where they aren't 0. As another one
-    they are an array of numpy, and the expression is run.
+    """Returns the values as a dtype: as int64 they are numbers, and as bool they are 1 where they aren't
+    0. For another dtype, returns an array of numpy, and the expression runs.
 
     >>> run(astype([0, 5], bool)).values
     [0, 1]

@@ -1,5 +1,4 @@
-"""Which parts of an expression a request has once, bound to names by `let`: those that stand in it
-several times, and would be worked out each time."""
+"""Which parts of an expression a request binds by `let`, since they would be evaluated several times."""
 
 from __future__ import annotations
 
@@ -8,26 +7,25 @@ from typing import Dict, List, Mapping, NamedTuple, Set, Tuple
 from ..expressions import Expr
 from ..rules import product
 
-# Operations along one axis, whose operands are worked out as lists.
+# Operations along one axis. Their operands are evaluated as lists.
 ALONG_AN_AXIS = frozenset("cumsum cumprod argmax argmin take".split())
-# What combines values into others: it is worked out as a list, wherever it stands.
+# Operations that combine values. They are evaluated as lists, wherever they are.
 COMBINING = ALONG_AN_AXIS.union("sum prod maximum minimum all any contract convolve".split())
-# From so many nodes on a part is bound that is worked out place by place: one of fewer costs less
-# again than its values cost in memory.
+# The fewest nodes of a bound part that is evaluated place by place. To evaluate a smaller part again
+# costs less than to keep its values in memory.
 LEAST_NODES = 16
-# What asks for places of its operand, and for none of them twice.
+# Operations that ask for no place of their operand twice.
 ONCE = frozenset("broadcast pad concat".split())
-# An expression of fewer nodes has nothing to bind: a sum, twice, below an operation, has five. One of
-# so many nodes is short.
+# An expression of fewer nodes has nothing to bind: an operation on the same sum twice has five nodes.
+# And the most nodes of a short expression.
 FEWEST, SHORT = 5, 500
-# So many parts are bound at most, since each let stands in the one before, and a text nests 127 deep.
-# Where an expression nests deeper a part is bound of each so many operations in one another.
+# The most parts that are bound: each `let` is inside the one before, and a text nests 127 deep. In an
+# expression that nests deeper, a part is bound for each DEEP operations inside one another.
 MOST_BOUND, DEEP = 100, 60
 
 
 class Bindings(NamedTuple):
-    """The parts that are bound, each behind those that it is made of; how many nodes a request has
-    that binds them, and how deep it nests."""
+    """The bound parts, each after the parts that it uses; and the nodes and the depth of the request."""
 
     bound: List[Expr]
     nodes: int
@@ -35,10 +33,10 @@ class Bindings(NamedTuple):
 
 
 def bindings_of(expr: Expr, is_apart: bool = False) -> Bindings:
-    """What stands several times in an expression, as one object, and combines values or has 16
-    nodes or more. In a short one what is worked out place by place is bound where no fewer places
-    of it are asked for than it has; and not where an answer is worked out apart, by threads that
-    each work out anew what is bound.
+    """Returns the parts that are used several times, as one object, and that combine values or have at
+    least 16 nodes. In a short expression, a part that is evaluated place by place is bound only if at
+    least as many places of it are asked for as it has. It isn't bound there with `is_apart`, when
+    threads compute parts of the answer apart: each of them would evaluate all that is bound.
 
     >>> s = tensor([[1, 2], [3, 4]]).sum(0)
     >>> bindings_of(s * s + s).bound
@@ -60,8 +58,8 @@ def bindings_of(expr: Expr, is_apart: bool = False) -> Bindings:
 
 
 def bound_by_depth(expr: Expr, is_alone: bool = False) -> Bindings:
-    """Parts of an expression so that no more operations than 60 stand in one another; and unless
-    these are wanted alone, what stands several times.
+    """Returns bindings with which at most 60 operations are inside one another. Unless `is_alone`, the
+    parts of `bindings_of` are bound too.
 
     >>> x = tensor(1)
     >>> for _ in range(100):
@@ -83,15 +81,15 @@ def bound_by_depth(expr: Expr, is_alone: bool = False) -> Bindings:
 
 
 def none_of(expr: Expr) -> Bindings:
-    """An expression as it stands, with no part bound."""
+    """Returns the bindings of an expression no part of which is bound."""
     return Bindings([], expr.nodes, expr.depth)
 
 
 def heavy_of(parts: List[Expr], counts: Dict[int, int]) -> Set[int]:
-    """Which parts are worked out place by place, of so many nodes that they are bound where they
-    stand twice; `counts` says how often each is an operand."""
+    """Returns which parts are evaluated place by place and have enough nodes to be bound if they are
+    used twice. `counts` says how often each is an operand."""
     heavy: Set[int] = set()
-    # How many nodes are worked out for a place of a part: one, where that lies in a list.
+    # How many nodes are evaluated for a place of a part: one, if the part is a list.
     weights: Dict[int, int] = {}
     for it in reversed(parts):
         if not it.operands or it.operation in COMBINING:
@@ -105,10 +103,10 @@ def heavy_of(parts: List[Expr], counts: Dict[int, int]) -> Set[int]:
 
 
 def standing_again(parts: List[Expr], heavy: Set[int], is_all: bool) -> List[Expr]:
-    """What would be worked out several times, each behind what it is made of: of what is worked out
-    place by place all, or what is asked for as many places as it has."""
+    """Returns the parts that would be evaluated several times, each after the parts that it uses. A
+    heavy part counts if `is_all`, or if at least as many places of it are asked for as it has."""
     found: List[Expr] = []
-    # How often each part stands in what is written, and how many places of it are asked for.
+    # How often each part is evaluated, and how many places of it are asked for.
     times: Dict[int, int] = {id(parts[0]): 1}
     places: Dict[int, int] = {id(parts[0]): size_of(parts[0])}
     for it in parts:
@@ -126,21 +124,20 @@ def standing_again(parts: List[Expr], heavy: Set[int], is_all: bool) -> List[Exp
 
 
 def asked_of(expr: Expr, operand: Expr, often: int, asked: int) -> int:
-    """How many places of its operand an operation asks for that stands so often, and so many places
-    of which are asked for."""
+    """Returns how many places of its operand an operation asks for, if it is evaluated `often` times and
+    `asked` of its places are asked for."""
     if expr.operation in COMBINING:
         return often * size_of(operand)
     return min(asked, often * size_of(operand)) if expr.operation in ONCE else asked
 
 
 def size_of(expr: Expr) -> int:
-    """How many places there are; none where they aren't known."""
+    """Returns how many places there are; 0 if the dims aren't known."""
     return 0 if expr.dims is None else product(expr.dims)
 
 
 def measured(parts: List[Expr], found: List[Expr]) -> Bindings:
-    """The bindings of an expression of these parts, as many as there may be, with the nodes and the
-    depth of its request."""
+    """Returns bindings of at most MOST_BOUND of these parts, with the request's nodes and depth."""
     bound = found[:MOST_BOUND]
     names = {id(it) for it in bound}
     sizes: Dict[int, Tuple[int, int]] = {}
@@ -157,7 +154,7 @@ def measured(parts: List[Expr], found: List[Expr]) -> Bindings:
 
 
 def in_order(expr: Expr) -> List[Expr]:
-    """All parts of an expression, each once, before those that it is made of."""
+    """Returns all parts of an expression, each once, before the parts that it uses."""
     found: List[Expr] = []
     seen = {id(expr)}
     left: List[Tuple[Expr, int]] = [(expr, 0)]
@@ -175,7 +172,7 @@ def in_order(expr: Expr) -> List[Expr]:
 
 
 def with_others(expr: Expr, others: Mapping[int, Expr]) -> Expr:
-    """An expression with others in the place of some of its parts, by the identity of these.
+    """Returns an expression in which other parts replace some of its parts, by the identity of these.
 
     >>> x, y = tensor([1, 2]), tensor([3, 4])
     >>> run(with_others(x * x + 1, {id(x): y})).values

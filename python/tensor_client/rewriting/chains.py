@@ -1,5 +1,5 @@
-"""Long chains of one operation, as sums and products, grouped in pairs: these nest less, and modulo
-2**64 their values are those of the chain."""
+"""Long chains of one operation, such as sums or products, grouped in pairs. Pairs nest less, and give
+the same values modulo 2**64."""
 
 from __future__ import annotations
 
@@ -8,16 +8,16 @@ from typing import Dict, List, Tuple
 from ..expressions import Expr
 
 SUMS = frozenset(("add", "sub"))
-# Operations whose chains may be grouped in any way, and what else stands in such a chain: modulo
-# 2**64 the values are the same.
+# Operations whose chains can be grouped in any way, and the operations in such a chain. The values
+# stay the same modulo 2**64.
 GROUPED = {it: frozenset((it,)) for it in "mul cwise_max cwise_min and or".split()}
 GROUPED.update({it: frozenset((it,)) for it in "bit_and bit_or bit_xor".split()})
 GROUPED.update(dict.fromkeys(SUMS, SUMS))
 
 
 def links(expr: Expr, bound: Dict[int, str]) -> Tuple[List[Expr], List[Expr]]:
-    """The operands of a chain of one operation, in their order: x, y and z of (x + y) + z; and
-    apart from them those that are taken away, as z of (x + y) - z. What is bound is no chain."""
+    """Returns the operands of a chain of one operation, in order: x and y of (x + y) - z. Apart from
+    them it returns the operands that are subtracted: z. A bound part ends the chain."""
     found: Tuple[List[Expr], List[Expr]] = [], []
     chained, left = GROUPED[expr.operation], [(expr, 0)]
     while left:
@@ -31,8 +31,7 @@ def links(expr: Expr, bound: Dict[int, str]) -> Tuple[List[Expr], List[Expr]]:
 
 
 def in_pairs(operation: str, level: List[Expr]) -> Expr:
-    """Operands of one operation as a tree of pairs, which nests by the logarithm of their
-    number."""
+    """Combines operands by one operation, as a tree of pairs, of logarithmic depth."""
     while len(level) > 1:
         zipped = zip(level[::2], level[1::2])
         pairs = [Expr(operation, it, dims=it[0].dims) for it in zipped]
@@ -41,8 +40,8 @@ def in_pairs(operation: str, level: List[Expr]) -> Expr:
 
 
 def balanced(expr: Expr, bound: Dict[int, str]) -> Expr:
-    """A chain of one operation as trees of pairs: of sums and differences what is taken away is
-    summed, and taken away once."""
+    """Returns a chain of one operation as trees of pairs. In sums and differences, the operands that are
+    subtracted are summed, and subtracted once."""
     operation = "add" if expr.operation in SUMS else expr.operation
     kept, taken = links(expr, bound)
     found = in_pairs(operation, kept)

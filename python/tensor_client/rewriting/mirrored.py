@@ -1,5 +1,5 @@
-"""Expressions with their axes in reverse order. An array in numpy's common order, the last axis
-fastest, is column-major so: it is read as it lies, and what combines it goes along its memory."""
+"""Expressions with their axes in reverse order. With its axes reversed, an array in C order is
+column-major. So a request reads it as it lies, and reductions go along its memory."""
 
 from __future__ import annotations
 
@@ -10,7 +10,7 @@ from ..rules import Dims
 from ..tensors import Tensor
 from .bindings import ALONG_AN_AXIS, in_order
 
-# Operations value by value, which are the same whatever the order of the axes.
+# Elementwise operations, for which the order of the axes has no meaning.
 VALUEWISE = frozenset(
     "neg abs square not constant add sub mul cwise_max cwise_min lt le eq ne gt ge and or select "
     "floor_divide remainder bit_and bit_or bit_xor bit_not shift_left shift_right".split()
@@ -20,8 +20,7 @@ Mirror = Callable[[Expr, List[Expr]], Expr]
 
 
 def lie_mirrored(expr: Expr) -> bool:
-    """Whether inputs lie in numpy's common order, and none of several axes and many values lies
-    otherwise.
+    """Whether an input lies in C order, and no large input with several axes lies otherwise.
 
     >>> lie_mirrored(tensor([[1, 2], [3, 4]]).sum(0))
     False
@@ -37,8 +36,8 @@ def lie_mirrored(expr: Expr) -> bool:
 
 
 def mirrored(expr: Expr) -> Optional[Expr]:
-    """An expression of the same values, with its axes in reverse order, over inputs as they lie in
-    memory; if the dims are known.
+    """Returns an expression of the same values with its axes in reverse order, over inputs as they lie
+    in memory. Returns None if dims aren't known.
 
     >>> x = tensor([[1, 2, 3], [4, 5, 6]])
     >>> run(mirrored(x.sum(0) + x)).nested()
@@ -57,7 +56,7 @@ def mirrored(expr: Expr) -> Optional[Expr]:
 
 
 def reversed_axes(expr: Expr) -> Expr:
-    """The axes in reverse order: a shuffle, or what such a one is of.
+    """Returns an expression with its axes in reverse order. The reverse of a reversal is its operand.
 
     >>> reversed_axes(reversed_axes(tensor([[1, 2]]))), reversed_axes(tensor([1, 2]))
     (tensor([[1, 2]]), tensor([1, 2]))
@@ -72,7 +71,7 @@ def reversed_axes(expr: Expr) -> Expr:
 
 
 def as_it_lies(it: Tensor) -> Expr:
-    """An input with its axes in reverse order."""
+    """Returns an input with its axes in reverse order."""
     if it.is_mirrored:
         return Tensor(it.own, (it.dims or ())[::-1], it.truth, it.shared)
     return reversed_axes(it)
@@ -83,7 +82,7 @@ def last_axis(expr: Expr) -> int:
 
 
 def again(expr: Expr, operands: Sequence[Expr], arguments: Sequence[Any]) -> Expr:
-    """An operation of other operands and arguments, where its dims are in reverse order."""
+    """Returns an operation with other operands and arguments, and its dims in reverse order."""
     return Expr(expr.operation, operands, arguments, (expr.dims or ())[::-1], expr.truth)
 
 
@@ -92,7 +91,7 @@ def same(expr: Expr, operands: List[Expr]) -> Expr:
 
 
 def lists_reversed(expr: Expr, operands: List[Expr]) -> Expr:
-    """An operation whose arguments have something for each axis."""
+    """Reverses an operation whose arguments have an entry for each axis."""
     return again(expr, operands, [it[::-1] for it in expr.arguments])
 
 
@@ -116,28 +115,26 @@ def reduced(expr: Expr, operands: List[Expr]) -> Expr:
 
 
 def contracted(expr: Expr, operands: List[Expr]) -> Expr:
-    """The other operand comes first, as its axes do in reverse order."""
+    """Reverses a contraction. The second operand comes first, as its axes do in reverse order."""
     ours, theirs = map(last_axis, operands)
     pairs = [[theirs - other, ours - own] for own, other in expr.arguments[0]]
     return again(expr, operands[::-1], [pairs])
 
 
 def convolved(expr: Expr, operands: List[Expr]) -> Expr:
-    """The kernel's axes are in reverse order too, and with them those along which they lie."""
+    """Reverses a convolution: the axes of its kernel, and the list of axes along which they lie."""
     last = last_axis(expr)
     return again(expr, operands, [[last - it for it in expr.arguments[0][::-1]]])
 
 
 def in_other_dims(expr: Expr, operands: List[Expr]) -> Expr:
-    """A reshape goes by places in their own order, which is another one in reverse, but where it puts
-    in or takes out axes of one place."""
+    """Reverses a reshape. A reshape goes by places in column-major order, which reversed axes change. So
+    the operand is turned back, unless only axes of length 1 are added or removed."""
     dims: Dims = expr.dims or ()
     before = operands[0].dims or ()
     if [it for it in dims if it != 1] == [it for it in before[::-1] if it != 1]:
         return again(expr, operands, [[*dims[::-1]]])
-    found = Expr(
-        "reshape", [reversed_axes(operands[0])], expr.arguments, dims, expr.truth
-    )
+    found = Expr("reshape", [reversed_axes(operands[0])], expr.arguments, dims, expr.truth)
     return reversed_axes(found)
 
 

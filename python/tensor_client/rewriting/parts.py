@@ -1,5 +1,4 @@
-"""Expressions that are too long for one request, run in parts: the tensors of the parts stand in what
-is asked for then."""
+"""Runs expressions that are too long for one request in parts. Their tensors replace the parts."""
 
 from __future__ import annotations
 
@@ -11,14 +10,14 @@ from ..length import FIRST_NODES, Unfit
 from ..tensors import Tensor
 from .bindings import in_order
 
-# So many nodes a part has at most, and operations in one another, in versions 1 and 2, and in version
-# 3, which binds some of its parts.
+# The most nodes of a part and operations inside one another: in versions 1 and 2, and in version 3,
+# which binds some parts.
 FIRST_PART, PART = (500, 110), (3_000, 1_500)
 Ask = Callable[[Expr, Any], Tensor]
 
 
 def at_once_or_in_parts(expr: Expr, ask: Ask, out: Optional[Any] = None) -> Tensor:
-    """The tensor of an expression's values, by one request, or by several where one can't have it."""
+    """Returns the tensor of an expression, by one request, or by several if one is too small for it."""
     try:
         return ask(expr, out)
     except Unfit as unfit:
@@ -27,8 +26,8 @@ def at_once_or_in_parts(expr: Expr, ask: Ask, out: Optional[Any] = None) -> Tens
 
 
 def in_parts(expr: Expr, nodes: int, depth: int, ask: Callable[[Expr], Tensor]) -> Expr:
-    """An expression of so many nodes at most, and so many operations in one another, over tensors of
-    what is longer. A tensor that nothing needs any more is let go of.
+    """Returns an expression of at most `nodes` nodes and `depth` operations inside one another, in which
+    tensors replace longer parts. A tensor that nothing needs any more is released.
 
     >>> found = in_parts(-(-(-(-tensor(5)))), 3, 3, run)
     >>> found, run(found).item()
@@ -53,12 +52,12 @@ def in_parts(expr: Expr, nodes: int, depth: int, ask: Callable[[Expr], Tensor]) 
 
 
 def is_within(operands: List[Expr], nodes: int, depth: int) -> bool:
-    """Whether an operation on these has no more nodes, and is no deeper."""
+    """Whether an operation on these operands has at most this many nodes, and this depth."""
     return sum([it.nodes for it in operands]) < nodes and max([it.depth for it in operands]) < depth
 
 
 def with_operands(it: Expr, operands: List[Expr]) -> Expr:
-    """An operation on others than its own operands, if they are others."""
+    """Returns an operation with these operands; itself, if they are its own."""
     if all(new is old for new, old in zip(operands, it.operands)):
         return it
     return Expr(it.operation, operands, it.arguments, it.dims, it.truth)

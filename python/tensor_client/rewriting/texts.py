@@ -1,5 +1,5 @@
-"""Expressions as texts ask for them, which have no operations along one axis: others stand in the
-place of these, over all pairs of two places of the axis, or in rows."""
+"""Expressions as texts ask for them. Texts have no operations along one axis. Other operations replace
+them: over all pairs of two places of the axis, or in rows."""
 
 from __future__ import annotations
 
@@ -15,12 +15,12 @@ from ..functions.scans import PRODUCTS, SUMS, scanned
 from ..tensors import Tensor, full, tensor, where
 from .bindings import in_order
 
-# So many nodes what is taken in parts may have.
+# The most nodes of values that are taken in parts.
 MOST_IN_PARTS = 150
 
 
 def as_in_texts(expr: Expr) -> Expr:
-    """The same values without an operation along one axis, where the dims are known.
+    """Returns an expression of the same values without operations along one axis, if the dims are known.
 
     >>> x = tensor([1, 2])
     >>> run(as_in_texts(x.cumsum(0) + x)).values, as_in_texts(x + 1).operation
@@ -40,7 +40,7 @@ def as_in_texts(expr: Expr) -> Expr:
 
 
 def first_offset(best: str, x: Expr, axis: int) -> Expr:
-    """The first offset of an axis at which the greatest or the least value stands; 0 of nothing."""
+    """Returns the first offset along an axis of the greatest or the least value; 0 for an empty axis."""
     length = x.shape[axis]
     if not length:
         return full(rules.without(x.shape, [axis]), 0)
@@ -50,9 +50,9 @@ def first_offset(best: str, x: Expr, axis: int) -> Expr:
 
 
 def taken(x: Expr, at: Expr, axis: int) -> Expr:
-    """What stands at these offsets of an axis: parts of it, where these are few, or else products
-    with matrices of 0 and 1, which have a place for each pair of an offset and a place of the
-    axis."""
+    """Returns the values at these offsets of an axis. If a few runs make up the offsets, it joins parts.
+    Otherwise it uses products with matrices of 0 and 1, which have a place for each pair of an offset
+    and a place of the axis. Raises TooLarge."""
     length, dims = x.shape[axis], beside_axis(x.shape, axis, at.shape)
     if isinstance(at, Tensor) and all(0 <= it < length for it in at.values):
         runs = runs_of(at.values, MOST_IN_PARTS // x.nodes)
@@ -70,7 +70,7 @@ def taken(x: Expr, at: Expr, axis: int) -> Expr:
     return concatenate(pieces, axis).in_dims(dims)
 
 
-# By the names of the operations along one axis.
+# What replaces each operation along one axis.
 OTHERS: Dict[str, Callable[..., Expr]] = {
     "cumsum": lambda x, axis: scanned(SUMS, x, axis),
     "cumprod": lambda x, axis: scanned(PRODUCTS, x, axis),
