@@ -10,7 +10,7 @@ import tensor_client as client
 from tensor_client import tensor, where
 from tensor_client import threads
 from tensor_client.library import POOLS, arrays_of, library_of
-from tensor_client.memory import as_memory, memory_for, overlap
+from tensor_client.memory import as_memory, memory_for, overlaps, place_of
 from tensor_client.requests import Settings, framed
 from tensor_client.threads import LEAST, parts_worth, products
 from asking import WAYS, referring
@@ -135,8 +135,8 @@ class Memory(unittest.TestCase):
             (flat[2:3], flat, True),
             (flat[:0], flat, False),
         ):
-            self.assertEqual(overlap(one.data, other.data), wanted)
-            self.assertEqual(overlap(other.data, one.data), wanted)
+            for memory, beside in (one.data, other.data), (other.data, one.data):
+                self.assertEqual(overlaps(memory, [(place_of(beside), len(beside))]), wanted)
 
     def test_the_array_of_an_answer(self):
         for way, (_, is_there, opened) in WAYS.items():

@@ -16,7 +16,7 @@ from .length import MOST_NODES
 from .library import Library, arrays_of, library_of
 from .memory import INT64, VALUE, as_memory, memory_for, numbers, place_of
 from .requests import Settings, framed
-from .results import Result, checked_out, lies_as_it_is, memory_of_out
+from .results import Result, checked_out, lies_as_it_is
 from .rewriting.bindings import in_order, with_others
 from .rules import Dims, product
 from .running import run
@@ -134,12 +134,12 @@ class Plan:
         self.pairs = [it for pair in pairs for it in pair]
         self.many, self.packed = len(pairs), struct.Struct(f"@{2 * len(pairs)}Q").pack
 
-    def arrays_at(self, places: Sequence[int]) -> bytes:
-        """Returns the addresses and sizes of all arrays, with the arrays of a call at these addresses."""
+    def pairs_at(self, places: Sequence[int]) -> List[int]:
+        """Returns the address and size of each array, with the arrays of a call at these addresses."""
         pairs = self.pairs[:]
         for at, which in self.slots:
             pairs[at] = places[which]
-        return self.packed(*pairs)
+        return pairs
 
 
 class Compiled:
@@ -171,8 +171,8 @@ class Compiled:
             key += key + is_turned
         plan = self.plans.get(key)
         if plan is None or plan.size > FEW or out is not None:
-            return self._at_length(library, key, places, kept, out)
-        room, arrays = plan.room(), plan.arrays_at(places)
+            return self._at_length(library, key, places, out)
+        room, arrays = plan.room(), plan.packed(*plan.pairs_at(places))
         count = library.run_plan(plan.numbers, plan.length, arrays, plan.many, 0, room, plan.size)
         if count != plan.size:
             raise library.failed(count)
@@ -220,9 +220,7 @@ class Compiled:
         memory = as_memory(found.own if is_turned else found.held)
         return place_of(memory), memory, is_turned
 
-    def _at_length(
-        self, library: Library, key: int, places: List[int], kept: List[Any], out: Any
-    ) -> Tensor:
+    def _at_length(self, library: Library, key: int, places: List[int], out: Any) -> Tensor:
         """Returns an answer of many values or in `out`, or the first answer for arrays in these orders."""
         order = None if out is None else bool(checked_out(out).flags.f_contiguous)
         named = key if out is None else (key, order)
@@ -230,12 +228,11 @@ class Compiled:
         if plan is None:
             plan = self.plans[named] = self._planned(library, key, out)
         result = Result(self.expr, out, plan.is_turned)
+        pairs = plan.pairs_at(places)
         # If `out` overlaps an input, the answer goes to new memory first.
-        inputs = [] if out is None else [it for it in (*kept, *plan.kept) if len(it)]
-        memories = [memory_of_out(it) if type(it) is ARRAY else it for it in inputs]
-        values = result.place(plan.dims, memories)
+        values = result.place(plan.dims, zip(pairs[::2], pairs[1::2]))
         prepared = library.pool_run, plan.numbers
-        library.fill(prepared, plan.arrays_at(places), plan.many, values, plan.parts)
+        library.fill(prepared, plan.packed(*pairs), plan.many, values, plan.parts)
         return result.tensor(values, plan.dims, plan.truth)
 
     def _planned(self, library: Library, key: int, out: Any) -> Plan:

@@ -104,7 +104,7 @@ class Library:
         # If dims of many values are known, the call that writes the values reports a fault.
         if dims is None or not LARGE <= product(dims) <= MOST_ELEMENTS:
             dims = self.dims_over(asked.header, arrays, len(parts))
-        values = result.place(dims, asked.held)
+        values = result.place(dims, zip(arrays[::2], arrays[1::2]))
 
         def shared() -> int:
             return self.shared(asked, arrays)

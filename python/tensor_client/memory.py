@@ -9,7 +9,7 @@ import ctypes
 import struct
 from array import array as packed
 from functools import lru_cache
-from typing import Any, List, Sequence, Tuple, Union
+from typing import Any, Iterable, List, Sequence, Tuple, Union
 
 from .values import GREATEST, LEAST, numpy, whole
 
@@ -125,7 +125,8 @@ def place_of(memory: Bytes) -> int:
     return ctypes.cast(begin, ctypes.c_void_p).value or 0
 
 
-def overlap(one: memoryview, other: Bytes) -> bool:
-    """Whether two memories have a byte in common."""
-    ours, theirs, size = place_of(one), place_of(other), memoryview(other).nbytes
-    return ours < theirs + size and theirs < ours + one.nbytes
+def overlaps(memory: memoryview, others: Iterable[Tuple[int, int]]) -> bool:
+    """Whether a memory has a byte in common with one of others, each an address and a number of values."""
+    begin = place_of(memory)
+    end = begin + memory.nbytes
+    return any(begin < at + VALUE * count and at < end for at, count in others)

@@ -2,11 +2,11 @@
 
 from __future__ import annotations
 
-from typing import Any, Optional, Sequence
+from typing import Any, Iterable, Optional, Sequence, Tuple
 
 from .expressions import Expr
 from .length import MOST_NODES
-from .memory import INT64, Held, memory_for, overlap
+from .memory import INT64, Held, memory_for, overlaps, place_of
 from .requests import dims_text
 from .rewriting.bindings import bindings_of
 from .rewriting.mirrored import lie_mirrored, mirrored, reversed_axes
@@ -26,6 +26,8 @@ class Result:
     ) -> None:
         self.out: Any = None if out is None else checked_out(out)
         self.most = most
+        # The memory of `out`, once it is found that the answer can be written there as it comes.
+        self.own_memory: Optional[memoryview] = None
         if turned is not None:
             self.turned = turned
             return
@@ -46,15 +48,18 @@ class Result:
         if self.out is not None and self.out.shape != wanted:
             raise ValueError(f"out has dims {self.out.shape}, and the answer {wanted}")
 
-    def own(self, inputs: Sequence[Held]) -> Optional[memoryview]:
+    def own(self, inputs: Iterable[Tuple[int, int]]) -> Optional[memoryview]:
         """Returns the memory of `out` if the answer can be written into it directly: if the order is
-        right and no input overlaps it."""
+        right and no input overlaps it. Each input is an address and a number of values."""
         if self.out is None or not (self.turned or self.out.flags.f_contiguous):
             return None
-        own, memories = memory_of_out(self.out), [it for it in inputs if not isinstance(it, list)]
-        return None if any(overlap(own, it) for it in memories) else own
+        own = memory_of_out(self.out)
+        if overlaps(own, inputs):
+            return None
+        self.own_memory = own
+        return own
 
-    def place(self, dims: Dims, inputs: Sequence[Held]) -> memoryview:
+    def place(self, dims: Dims, inputs: Iterable[Tuple[int, int]]) -> memoryview:
         """Returns memory for an answer of these dims, which overlaps no input: the memory of `out` if
         possible."""
         self.check(dims)
@@ -62,7 +67,7 @@ class Result:
 
     def place_of_frame(self, inputs: Sequence[Held]) -> Optional[Place]:
         """Returns the memory of `out`, for the values of a frame with its dims."""
-        own = self.own(inputs)
+        own = self.own((place_of(it), len(it)) for it in inputs if not isinstance(it, list))
         if own is None:
             return None
         dims = self.out.shape[::-1] if self.turned else self.out.shape
@@ -81,9 +86,8 @@ class Result:
         `out` its values are numbers, since others may write into the array."""
         dims, truth = dims[::-1] if self.turned else dims, truth and self.out is None
         found = Tensor(values, dims, truth, turned=self.turned)
-        if self.out is not None:
-            if isinstance(values, list) or not overlap(memory_of_out(self.out), values):
-                self.out[...] = found.array()
+        if self.out is not None and values is not self.own_memory:
+            self.out[...] = found.array()
         return found
 
 
