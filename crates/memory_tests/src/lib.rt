@@ -27,4 +27,6 @@ mod refusing;
 #[cfg(test)]
 mod splits;
 #[cfg(test)]
+mod standing;
+#[cfg(test)]
 mod tasks;

@@ -51,19 +51,29 @@ module _ {J O : Type 0} (law : JobLaw J O) (w : J → ℕ) (v : O → ℕ)
       absurd (omega arith)
   weight-nodes (Left job ∷ nodes) lawful none_left none_refused = absurd (cc)
 
-  -- the job that came in weighs what all outs do
-  pub weight-account : {keeps : Type 0} (job : J) (outs : List O) (left : List J) (refused : ℕ)
-      → keeps → left ≡ [] → refused ≡ 0
-      → Account keeps law (job ∷ []) [] outs left refused
-      → w job ≡ total v outs
-  weight-account job outs left refused on none_left none_refused account =
+  -- the jobs that came in weigh what all outs do
+  pub weight-accounts : {keeps : Type 0} (jobs : List J) (outs : List O) (left : List J)
+      (refused : ℕ) → keeps → left ≡ [] → refused ≡ 0
+      → Account keeps law jobs [] outs left refused
+      → total w jobs ≡ total v outs
+  weight-accounts came outs left refused on none_left none_refused account =
       let nodes = account.nodes in
       let counts = account.refused_are in
       let none : sum_by refusals_of nodes ≡ 0 = omega arith in
       let all = weight-nodes nodes account.lawful (sym account.left_are ∙ none_left) none in
       let balance = account.balance on w in
       let jobs = total-append w (map job_of nodes) [] in
+      let roots = total-append w came (flat_map kids_of nodes) in
       let same = ap (total v) account.outs_are in
+      omega arith
+
+  -- the job that came in weighs what all outs do
+  pub weight-account : {keeps : Type 0} (job : J) (outs : List O) (left : List J) (refused : ℕ)
+      → keeps → left ≡ [] → refused ≡ 0
+      → Account keeps law (job ∷ []) [] outs left refused
+      → w job ≡ total v outs
+  weight-account job outs left refused on none_left none_refused account =
+      let all = weight-accounts (job ∷ []) outs left refused on none_left none_refused account in
       omega arith
 
 -- the leaves of a range are the leaves of its parts

@@ -15,6 +15,8 @@ mod settings;
 #[cfg(test)]
 mod setups;
 #[cfg(test)]
+mod standing;
+#[cfg(test)]
 mod tasks;
 #[cfg(test)]
 mod trees;

@@ -1,5 +1,6 @@
 //! Tests of which setups a pool accepts.
 use crate::runs::run_tasks;
+use crate::standing::{fault_over_slots, grow_all};
 use crate::tasks::tenfolds;
 use crate::trees::grow;
 use crate::watch::{Watch, Way};
@@ -76,8 +77,10 @@ fn setups_that_are_taken_and_refused(rt: HostRuntime) -> Result<(), Fail> {
             grow(&rt, alloc, trees::Kind::Counted, &setup, 0).err(),
             fault_of(&rt, alloc, &setup, None)?,
             fault_of(&rt, alloc, &setup, Some(1))?,
+            grow_all(&rt, alloc, &setup, 0).err(),
+            fault_over_slots(&rt, alloc, &setup),
         ];
-        assert_eq!(rt; found, [fault; 6], "{workers} workers, {ranges:?}");
+        assert_eq!(rt; found, [fault; 8], "{workers} workers, {ranges:?}");
     }
     Ok(())
 }

@@ -17,8 +17,8 @@ use worker_pool::{
 /// A job for the leaves of a tree, whose outs are their places. A tree of height 0 is a leaf.
 #[derive(Drop)]
 pub(crate) struct Tree {
-    place: u64,
-    height: u32,
+    pub(crate) place: u64,
+    pub(crate) height: u32,
 }
 
 impl Job<Global> for Tree {
@@ -133,7 +133,7 @@ pub(crate) fn grow<RT: Threads + Wait + Sync>(
 }
 
 /// Returns the first place that is not the next leaf's.
-fn first_wrong(places: &[u64]) -> Option<u64> {
+pub(crate) fn first_wrong(places: &[u64]) -> Option<u64> {
     let mut next = 0u64;
     for place in places {
         if *place != next {

@@ -9,7 +9,7 @@ use uses::distances::row_distances;
 use uses::fence::arrived;
 use uses::hand_over::handed_over;
 use uses::histogram::histogram;
-use uses::leaves::count_leaves;
+use uses::leaves::{count_all_leaves, count_leaves};
 use uses::queued_sum::queued_sum;
 use uses::squares::squares_of;
 use uses::stolen_sum::stolen_sum;
@@ -109,6 +109,23 @@ fn leaves_of_a_tree(rt: HostRuntime) -> Result<(), Fail> {
     }
     assert_eq!(rt;
         count_leaves(&rt, rt.alloc(), 0, 1),
+        Err(PoolFault::BadWorkers)
+    );
+    Ok(())
+}
+
+#[test]
+fn leaves_of_many_trees(rt: HostRuntime) -> Result<(), Fail> {
+    let heights = [0, 1, 2, 10, 20];
+    for workers in [1, 4] {
+        assert_eq!(rt;
+            count_all_leaves(&rt, rt.alloc(), workers, &heights)?,
+            11_039
+        );
+    }
+    assert_eq!(rt; count_all_leaves(&rt, rt.alloc(), 2, &[])?, 0);
+    assert_eq!(rt;
+        count_all_leaves(&rt, rt.alloc(), 257, &[1]),
         Err(PoolFault::BadWorkers)
     );
     Ok(())

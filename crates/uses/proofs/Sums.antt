@@ -13,6 +13,14 @@ total-sum (n ∷ numbers) =
     let more = sum_by-cons (λ m. m) n numbers in
     omega arith
 
+-- items that are weighed by a number
+pub total-sum_by : {X : Type 0} (f : X → ℕ) (xs : List X) → total f xs ≡ sum_by f xs
+total-sum_by f [] = refl
+total-sum_by f (x ∷ xs) =
+    let rest = total-sum_by f xs in
+    let more = sum_by-cons f x xs in
+    omega arith
+
 -- the numbers of lists, list by list
 pub sum-flat_map : {X : Type 0} (numbers_of : X → List ℕ) (xs : List X)
     → sum (flat_map numbers_of xs) ≡ sum_by (λ x. sum (numbers_of x)) xs

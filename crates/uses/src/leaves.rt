@@ -1,7 +1,8 @@
-//! Fork and join: the leaves of a tree, counted by the workers of a pool. `worker_pool/CALLING.md`
-//! quotes it.
-ghost use Rattle.std.specs.Prelude.{◌≡◌, ◌^◌, ◌%◌, ◌↔◌, IfOk, IsErrOf, sum};
+//! Fork and join: the leaves of a tree, counted by the workers of a pool, and those of many trees,
+//! counted in one pool that stays open. `worker_pool/CALLING.md` quotes both.
+ghost use Rattle.std.specs.Prelude.{◌≡◌, ◌+◌, ◌^◌, ◌%◌, ◌↔◌, IfOk, IsErrOf, sum, sum_by};
 ghost use Rattle.worker_pool.specs.Setup.{IsNoPoolSize};
+ghost use Rattle.worker_pool.specs.Standing.{roots_in};
 ghost use Rattle.uses.specs.Trees.{leaves_of};
 
 use event_count::EventCount;
@@ -9,7 +10,9 @@ use run_queue::SlotRows;
 use std::alloc::{AllocError, Global};
 use std::sync::Wait;
 use std::thread::Threads;
-use worker_pool::{Job, NoGate, PoolFault, Progress, Setup, VecLists, with_root};
+use worker_pool::{
+    CountedPool, Job, NoGate, PoolFault, Progress, Setup, Stands, VecLists, open_counted, with_root,
+};
 
 /// A tree. One of its kids is lower by one, the other by two. Below height 2 it is a leaf.
 #[derive(Debug, Drop)]
@@ -60,6 +63,17 @@ fn added(numbers: &[u64]) -> u64
     sum
 }
 
+/// Adds up the numbers of all lists, modulo 2^64.
+fn total(lists: &[Vec<u64>]) -> u64
+    ensures { result ≡ sum_by (λ list. sum list.items) lists.now % 2 ^ 64 }
+{
+    let mut sum = 0u64;
+    for list in lists {
+        sum = sum.wrapping_add(added(list));
+    }
+    sum
+}
+
 /// Counts the leaves of the tree of this height, modulo 2^64.
 pub fn count_leaves<RT: Threads + Wait + Sync>(
     rt: &RT,
@@ -86,9 +100,46 @@ pub fn count_leaves<RT: Threads + Wait + Sync>(
     if closed.refused > 0 {
         return Err(PoolFault::NoMemory);
     }
-    let mut count = 0u64;
-    for outs in &closed.outs {
-        count = count.wrapping_add(added(outs));
+    Ok(total(&closed.outs))
+}
+
+/// Schedules a tree of each of these heights.
+fn plant<RT: Wait>(rt: &RT, pool: &mut CountedPool<Tree, Global>, heights: &[u32])
+    requires { ⟦<CountedPool<Tree, Global> as Stands>⟧.is_standing pool.old }
+    ensures standing { ⟦<CountedPool<Tree, Global> as Stands>⟧.is_standing pool.new }
+    ensures leaves { sum_by (λ tree. leaves_of tree.height) (roots_in pool.new)
+        ≡ sum_by (λ tree. leaves_of tree.height) (roots_in pool.old)
+        + sum_by leaves_of heights.now }
+{
+    let Some((height, rest)) = heights.split_first() else {
+        return;
+    };
+    pool.schedule(rt, Tree { height: *height });
+    plant(rt, pool, rest);
+}
+
+/// Counts the leaves of the trees of these heights, modulo 2^64. One pool stays open from the first
+/// tree to the last.
+pub fn count_all_leaves<RT>(
+    rt: &RT,
+    alloc: Global,
+    workers: u32,
+    heights: &[u32],
+) -> Result<u64, PoolFault>
+where
+    RT: Threads + Wait + Copy + Send + 'static,
+    ensures leaves { IfOk result (λ count. count ≡ sum_by leaves_of heights.now % 2 ^ 64) }
+    ensures bad_workers { IsErrOf result PoolFault.BadWorkers ↔ IsNoPoolSize workers }
+{
+    let setup = Setup {
+        workers,
+        partitions: Vec::new(alloc),
+    };
+    let mut pool = open_counted(rt, alloc, &setup, ())?;
+    plant(rt, &mut pool, heights);
+    let closed = pool.close(rt);
+    if closed.refused > 0 {
+        return Err(PoolFault::NoMemory);
     }
-    Ok(count)
+    Ok(total(&closed.outs))
 }

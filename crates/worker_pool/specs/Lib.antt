@@ -11,6 +11,7 @@ pub mod Ran
 pub mod Seats
 pub mod Seen
 pub mod Setup
+pub mod Standing
 pub mod Starts
 pub mod Steps
 pub mod StopPlays

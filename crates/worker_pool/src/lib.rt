@@ -16,6 +16,9 @@
 //! job. `with_counted_root` does this over rows that wake workers. `W` is the point at which
 //! workers wait, `R` is their rows, and `L` is the kind of the lists of outs.
 //!
+//! A `StandingPool` stays open between calls. Its threads own it together with its owner, who
+//! schedules jobs in it and closes it (`standing/`).
+//!
 //! # A worker's turn
 //!
 //! The gate is called before each turn. If the pool was cancelled, the worker ends. Otherwise it
@@ -67,6 +70,7 @@ mod job;
 mod lists;
 mod opening;
 mod setup;
+mod standing;
 mod working;
 
 pub use boxed::{BoxedJob, BoxedTask, TaskOut};
@@ -77,3 +81,4 @@ pub use gate::{Gate, NoGate};
 pub use job::{Job, Progress};
 pub use lists::{Lists, VecLists};
 pub use setup::{MOST_WORKERS, PoolFault, Setup};
+pub use standing::{CountedPool, StandingPool, Stands, open_counted};

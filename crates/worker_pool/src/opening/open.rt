@@ -73,6 +73,8 @@ where
         × AreNoPartitions setup.now.workers setup.now.partitions.items) }
     ensures opened { IfOk result (IsOpened R.Rows W.WaitPoint setup.now.partitions.items J.Job
         L.Lists setup.now.workers) }
+    ensures joined { IfOk result (λ made.
+        O.joins made.pool.queue.rows made.pool.queue.point) }
 {
     setup.check()?;
     Ok(open_checked::<J, A, W, R, L, O>(alloc, setup)?)
@@ -93,8 +95,10 @@ where
     O: Opens<J, A, W, R>,
     requires size { IsPoolSize setup.now.workers }
     requires partitions { ArePartitions setup.now.workers setup.now.partitions.items }
-    ensures { IfOk result (IsOpened R.Rows W.WaitPoint setup.now.partitions.items J.Job L.Lists
-        setup.now.workers) }
+    ensures opened { IfOk result (IsOpened R.Rows W.WaitPoint setup.now.partitions.items J.Job
+        L.Lists setup.now.workers) }
+    ensures joined { IfOk result (λ made.
+        O.joins made.pool.queue.rows made.pool.queue.point) }
 {
     let workers = setup.workers as usize;
     let gathered = Gathered::with_room(&alloc, workers + 1)?;
@@ -133,6 +137,7 @@ where
     requires size { IsPoolSize setup.now.workers }
     requires partitions { ArePartitions setup.now.workers setup.now.partitions.items }
     ensures workers { IfOk result (λ made. made.0.queue.workers ≡ setup.now.workers) }
+    ensures joined { IfOk result (λ made. O.joins made.0.queue.rows made.0.queue.point) }
     ensures opener { IfOk result (λ made. IsFresh R.Rows W.WaitPoint L.Lists made.0 made.1) }
     ensures random { IfOk result (λ made. made.1.seats.random ≡ seeded_by setup.now.workers) }
     ensures at_work { IfOk result (λ made. (ctx : J.Ctx) →
@@ -161,6 +166,7 @@ where
     O: Opens<J, A, W, R>,
     requires { IsPoolSize workers }
     ensures workers { IfOk result (λ made. made.0.workers ≡ workers) }
+    ensures joined { IfOk result (λ made. O.joins made.0.rows made.0.point) }
     ensures sized { IfOk result (λ made. IsJobQueue R.Rows W.WaitPoint made.0) }
     ensures rows { IfOk result (λ made. AreRowSeats R.Rows made.0.rows 0 made.1.items) }
     ensures wakers { IfOk result (λ made. AreWakers W.WaitPoint made.0.point 0 made.2.items) }

@@ -56,7 +56,7 @@ pub(crate) trait Opening<S> {
 /// The promise of a worker's thread: a worker that began in this state is still at work at this
 /// workplace, and has ended or did nothing.
 #[derive(Drop)]
-struct ComeHome<S, X>(Snapshot<S>, Snapshot<X>);
+pub(crate) struct ComeHome<S, X>(pub(crate) Snapshot<S>, pub(crate) Snapshot<X>);
 
 impl<X, S: Workplace<X>> Promise<X> for ComeHome<S, X> {
     ghost kept_by = { λ from state.
@@ -64,12 +64,12 @@ impl<X, S: Workplace<X>> Promise<X> for ComeHome<S, X> {
 }
 
 /// A number that no worker has.
-const NOBODY: u64 = u64::MAX;
+pub(crate) const NOBODY: u64 = u64::MAX;
 
 /// The bytes of stack of a worker, which are as many as Rust gives a thread. The C library's
 /// default is the limit of `ulimit -s`, commonly four times as much, which leaves room for few
 /// workers if memory is limited.
-const STACK: usize = 2 << 20;
+pub(crate) const STACK: usize = 2 << 20;
 
 /// Starts a worker for each of the first `starts` states, and calls `opening` with the number of
 /// workers that were started. Returns all states, by number. A worker that was not started does

@@ -1,7 +1,6 @@
-use Rattle.std.proofs.Common.{◌≡◌, ℕ, ◌%◌, ◌^◌, length, take, sym, ap, ◌∙◌, arith}
+use Rattle.std.proofs.Common.{◌≡◌, ℕ, ◌%◌, ◌^◌, sym, ap, ◌∙◌, arith}
 use Rattle.std.specs.Prelude.{sum, sum_by}
 use Rattle.std.specs.List.{flat_map}
-use Rattle.std.proofs.Math.Seq.{take-length}
 use Rattle.parallel_for.proofs.Covering.{weight-account}
 use Rattle.uses.specs.Trees.{leaves_of}
 use Rattle.uses.proofs.Sums.{total-sum, sum-flat_map}
@@ -16,11 +15,7 @@ returns-clause-leaves g c =
     let leaves = weight-account _ (λ tree. leaves_of tree.height) (λ (n : ℕ). n)
     (λ job kid rest step. step.0) (λ job out step. sym step.0) _ outs closed.left.items
     closed.refused tt told.none_left (omega (arith, c.if-closed-gt0.false)) told.account in
-    let items = c.deref-outs-items.result.now in
-    let end : c.loop-outs.outs-index ≡ length items =
-    omega (arith, c.loop-outs-test.false, c.loop-outs.auto.outs-index-end) in
-    let counted = ap (λ (k : ℕ). sum_by (λ list. sum list.items) (take k items)) end
-    ∙ ap (sum_by (λ list. sum list.items)) (take-length items ∙ c.deref-outs-items.ensures.value)
+    let counted = ap (sum_by (λ list. sum list.items)) c.deref.ensures.value
     ∙ sym (sum-flat_map (λ list. list.items) closed.outs.items)
     ∙ sym (total-sum outs) ∙ sym leaves in
-    c.loop-outs.invariant ∙ ap (λ (n : ℕ). n % 2 ^ 64) counted
+    c.total.ensures ∙ ap (λ (n : ℕ). n % 2 ^ 64) counted

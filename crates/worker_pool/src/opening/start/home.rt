@@ -27,7 +27,7 @@ pub(crate) struct Home<X> {
 
 impl<X> Home<X> {
     /// Joins the thread, and returns the state that it ended with.
-    pub(super) fn joined<RT: Threads, P: Promise<X>>(rt: &RT, child: PromisedHandle<X, P>) -> Self
+    pub(crate) fn joined<RT: Threads, P: Promise<X>>(rt: &RT, child: PromisedHandle<X, P>) -> Self
         ensures start { result.start ≡ Joined }
         ensures kept { P.kept_by child.promise result.state }
     {
@@ -38,7 +38,7 @@ impl<X> Home<X> {
     }
 
     /// Calls the function whose thread could not be started, and returns the state that it gives.
-    pub(super) fn refused<F: FnOnce() -> X>(refused: SpawnError<F>) -> Self
+    pub(crate) fn refused<F: FnOnce() -> X>(refused: SpawnError<F>) -> Self
         requires { F.pre refused.value }
         ensures start { result.start ≡ Refused }
         ensures called { F.post refused.value result.state }
@@ -50,7 +50,7 @@ impl<X> Home<X> {
     }
 
     /// Returns the state of a worker for which no thread was asked for.
-    pub(super) fn not_asked(state: X) -> Self
+    pub(crate) fn not_asked(state: X) -> Self
         ensures { result ≡ record { state = state; start = NotAsked } }
     {
         Home {

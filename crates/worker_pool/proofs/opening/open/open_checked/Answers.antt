@@ -2,8 +2,8 @@ use Rattle.std.proofs.Common.{arith}
 use Rattle.worker_pool.proofs.Numbered.{length-numbered}
 use Rattle.worker_pool.proofs.opening.open.open_checked.Goals as goal
 
-pub returns : goal.returns
-returns g c =
+pub returns-clause-opened : goal.returns-clause-opened
+returns-clause-opened g c =
     let made = c.in_ok-pool.ensures in
     let all = length-numbered _ _ _ made.numbers in
     let long = c.in_ok-pool.states.ok.0 in

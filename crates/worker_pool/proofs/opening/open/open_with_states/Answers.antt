@@ -1,4 +1,4 @@
-use Rattle.std.proofs.Common.{◌∙◌, ap, sym, arith}
+use Rattle.std.proofs.Common.{◌∙◌, ap, sym, subst, arith}
 use Rattle.worker_pool.proofs.opening.open.open_with_states.Goals as goal
 
 pub overflow_cast-setup : goal.overflow_cast-setup
@@ -45,3 +45,8 @@ returns-clause-at_work g c = c.in_ok-opener.ensures.at_work
 
 pub returns-clause-by_number : goal.returns-clause-by_number
 returns-clause-by_number g c = c.in_ok-opener.ensures.by_number
+
+pub returns-clause-joined : goal.returns-clause-joined
+returns-clause-joined g c =
+    subst (λ queue. g.O.Opens.joins queue.rows queue.point) (sym c.in_ok-pool.ensures.queue)
+    c.in_ok-queue.ensures.joined

@@ -1,0 +1,41 @@
+use Rattle.std.proofs.Common.{◌∙◌, [], All, sym, subst}
+use Rattle.worker_pool.specs.Accounts.{Account}
+use Rattle.worker_pool.specs.Closings.{all_outs}
+use Rattle.worker_pool.specs.Laws.{law_of}
+use Rattle.worker_pool.specs.Seats.{IsOpener}
+use Rattle.worker_pool.specs.Standing.{roots_in}
+use Rattle.worker_pool.specs.Works.{IsAtWork}
+use Rattle.worker_pool.proofs.standing.standing_pool.StandingPool.close.Goals as goal
+
+pub close-requires-clause-seats : goal.close-requires-clause-seats
+close-requires-clause-seats g c =
+    subst (λ shared. IsOpener g.R.Rows g.W.WaitPoint shared.place.pool.queue
+    c.end-opener.result.seats.row c.end-opener.result.seats.waker)
+    (c.deref.ensures ∙ sym c.take_back-pool.ensures) c.end-opener.ensures.seats
+
+pub close-requires-clause-at_work : goal.close-requires-clause-at_work
+close-requires-clause-at_work g c =
+    subst (λ shared. All (λ home.
+    IsAtWork g.R.Rows g.W.WaitPoint g.J.Job shared.place.pool shared.place.ctx home.state)
+    c.join_all-homes.result.items) (sym c.take_back-pool.ensures)
+    (c.join_all-homes.ensures.home c.args.self.shared.value.place c.requires.ours c.requires.home)
+
+pub returns-clause-account : goal.returns-clause-account
+returns-clause-account g c =
+    let start : Account g.R.Rows.keeps_accounts (law_of g.J.Job c.take_back-pool.result.place.ctx)
+    (roots_in c.args.self) (g.R.Rows.puts_of c.end-opener.result.seats.row)
+    (g.L.Lists.items_of c.end-opener.result.outs) [] c.end-opener.result.refused =
+    rw (
+      c.take_back-pool.ensures,
+      c.end-opener.ensures.row,
+      c.end-opener.ensures.outs,
+      c.end-opener.ensures.refused,
+    ) c.requires.account in
+    subst (λ shared. Account g.R.Rows.keeps_accounts (law_of g.J.Job shared.place.ctx)
+    (roots_in c.args.self) [] (all_outs c.close.result.outs) c.close.result.left.items
+    c.close.result.refused) c.take_back-pool.ensures
+    (c.close.ensures.account (roots_in c.args.self) start)
+
+pub returns-clause-none_left : goal.returns-clause-none_left
+returns-clause-none_left g c =
+    c.close.ensures.none_left (c.end-opener.ensures.cancelled ∙ c.requires.not_cancelled)

@@ -1,0 +1,177 @@
+//! Starting workers whose threads own their workplace together, joining these threads, and taking
+//! the workplace back. It knows nothing of pools but `Told`, by which no thread is joined before
+//! all workers were woken to end. `opening/start.rt` does the same for threads of one call.
+ghost use Rattle.std.specs.Prelude.{◌≡◌, ◌≢◌, ◌+◌, ◌≤◌, All, IfOk, IfErr, vec_len, vec_capacity};
+ghost use Rattle.std.specs.Arc.{arc_value};
+ghost use Rattle.worker_pool.specs.Starts.{Returns};
+ghost use Rattle.worker_pool.specs.Stops.{open_word};
+ghost use Rattle.worker_pool.specs.Told.{told_of};
+
+use crate::opening::start::{ComeHome, Home, NOBODY, STACK, Workplace};
+use crate::working::job_queue::Told;
+use core::thread::Stack;
+use std::alloc::Allocator;
+use std::snapshot::Snapshot;
+use std::sync::atomic::{AtomicU64, Ordering};
+use std::sync::{Arc, Wait};
+use std::thread::{PromisedHandle, Threads, yield_now};
+
+/// A workplace that threads own together.
+#[derive(Drop)]
+pub(crate) struct SharedWorkplace<S: Drop> {
+    pub(crate) place: S,
+    /// The number of the last worker whose thread could not be started, or `NOBODY`.
+    left_out: AtomicU64,
+}
+
+impl<S: Drop> SharedWorkplace<S> {
+    /// Returns the workplace for threads to share.
+    pub(crate) fn new(place: S) -> Self
+        ensures { result.place ≡ place }
+    {
+        SharedWorkplace {
+            place,
+            left_out: AtomicU64::new(NOBODY),
+        }
+    }
+}
+
+/// A worker's thread, which owns the workplace together with others.
+#[derive(Drop)]
+pub(crate) struct WorkerThread<S: Workplace<X>, X: Drop> {
+    handle: PromisedHandle<X, ComeHome<S, X>>,
+}
+
+/// Starts the worker `number` with this state, on a thread that shares the workplace. If no thread
+/// can be started, returns the state as it is.
+fn start_one<RT, X, A, S>(
+    rt: &RT,
+    shared: &Arc<SharedWorkplace<S>, A>,
+    number: u64,
+    state: X,
+) -> Result<WorkerThread<S, X>, Home<X>>
+where
+    RT: Threads + Wait + Copy + Send + 'static,
+    X: Send + Drop + 'static,
+    A: Allocator + Send + Sync + 'static,
+    S: Workplace<X> + Drop + Send + Sync + 'static,
+    requires at_work { S.is_at_work (arc_value shared.now).place state }
+    ensures started { IfOk result (λ child.
+        child.handle.promise.0.value ≡ (arc_value shared.now).place) }
+    ensures home { IfErr result (λ home. S.is_at_work (arc_value shared.now).place home.state) }
+{
+    let Ok(theirs) = Arc::try_clone(shared) else {
+        return Err(Home::not_asked(state));
+    };
+    let own_rt = *rt;
+    match Stack::new().stack_size(STACK).spawn_with(
+        rt,
+        ComeHome(Snapshot::of(&shared.place), Snapshot::of(&state)),
+        move || -> X
+            requires { S.is_at_work (arc_value theirs).place state }
+            ensures { Returns S.is_at_work S.has_ended (arc_value theirs).place state result }
+        {
+            if theirs.left_out.load(Ordering::SeqCst) == number {
+                state
+            } else {
+                theirs.place.work(&own_rt, state)
+            }
+        },
+    ) {
+        Ok(handle) => Ok(WorkerThread { handle }),
+        Err(refused) => {
+            shared.left_out.store(number, Ordering::SeqCst);
+            Err(Home::refused(refused))
+        }
+    }
+}
+
+/// Starts a worker for each of the states, the last state first, and adds the threads to `threads`.
+/// The states for which no thread can be started are added to `ended`.
+pub(crate) fn start_each<RT, X, A, S>(
+    rt: &RT,
+    shared: &Arc<SharedWorkplace<S>, A>,
+    mut states: Vec<X, A>,
+    mut threads: Vec<WorkerThread<S, X>, A>,
+    mut ended: Vec<Home<X>, A>,
+) -> (Vec<WorkerThread<S, X>, A>, Vec<Home<X>, A>)
+where
+    RT: Threads + Wait + Copy + Send + 'static,
+    X: Send + Drop + 'static,
+    A: Allocator + Send + Sync + 'static,
+    S: Workplace<X> + Drop + Send + Sync + 'static,
+    requires at_work { All (S.is_at_work (arc_value shared.now).place) states.items }
+    requires ours { All (λ child. child.handle.promise.0.value ≡ (arc_value shared.now).place)
+        threads.items }
+    requires home { All (λ home. S.is_at_work (arc_value shared.now).place home.state) ended.items }
+    requires room { vec_len states + vec_len threads ≤ vec_capacity threads }
+    requires room_at_home { vec_len states + vec_len threads + vec_len ended
+        ≤ vec_capacity ended }
+    ensures ours { All (λ child. child.handle.promise.0.value ≡ (arc_value shared.now).place)
+        result.0.items }
+    ensures home { All (λ home. S.is_at_work (arc_value shared.now).place home.state)
+        result.1.items }
+    ensures all { vec_len result.0 + vec_len result.1
+        ≡ vec_len states + vec_len threads + vec_len ended }
+    ensures capacity { vec_capacity result.1 ≡ vec_capacity ended }
+{
+    let Some(state) = states.pop() else {
+        return (threads, ended);
+    };
+    let number = states.len() as u64;
+    match start_one(rt, shared, number, state) {
+        Ok(child) => {
+            threads.push_reserved(child);
+            start_each(rt, shared, states, threads, ended)
+        }
+        Err(home) => {
+            ended.push_reserved(home);
+            start_each(rt, shared, states, threads, ended)
+        }
+    }
+}
+
+/// Joins all threads, and adds the states that their workers ended with to `ended`. Before, all
+/// workers were woken after a store of the stop word, as `told` says.
+pub(crate) fn join_all<RT, X, A, S, J>(
+    rt: &RT,
+    told: &Told<J>,
+    mut threads: Vec<WorkerThread<S, X>, A>,
+    mut ended: Vec<Home<X>, A>,
+) -> Vec<Home<X>, A>
+where
+    RT: Threads,
+    X: Drop,
+    A: Allocator,
+    S: Workplace<X>,
+    requires told { told_of told.now ≢ open_word }
+    requires room { vec_len threads + vec_len ended ≤ vec_capacity ended }
+    ensures all { vec_len result ≡ vec_len threads + vec_len ended }
+    ensures home { (place : _) → All (λ child. child.handle.promise.0.value ≡ place) threads.items
+        → All (λ home. S.is_at_work place home.state) ended.items
+        → All (λ home. S.is_at_work place home.state) result.items }
+{
+    let Some(child) = threads.pop() else {
+        return ended;
+    };
+    let WorkerThread { handle } = child;
+    ended.push_reserved(Home::joined(rt, handle));
+    join_all(rt, told, threads, ended)
+}
+
+/// Returns what several threads owned together, once the others have let go of it.
+pub(crate) fn take_back<RT: Wait, T, A: Allocator>(rt: &RT, shared: Arc<T, A>) -> T
+    ensures { result ≡ arc_value shared }
+{
+    let mut held = shared;
+    for _ in rt.forever() {
+        match Arc::try_unwrap(held) {
+            Ok(value) => return value,
+            Err(back) => {
+                held = back;
+                yield_now();
+            }
+        }
+    }
+    unreachable!()
+}
