@@ -115,6 +115,29 @@ def test_gone(at):
 
 
 @each_address
+def test_gone_by_seconds(at):
+    """A client asks and closes, and socat does not stand between: its request is computed until its
+    seconds have passed."""
+    for options, is_ended in (most(seconds=WAIT), True), ((), False):
+        with served(at, options) as service:
+            client = Client(service)
+            client.socket.sendall(endless(service.server))
+            assert until(lambda: len(service.processes()) == 1)
+            client.socket.close()
+            assert until(service.is_idle, SECONDS if is_ended else 3 * WAIT) == is_ended
+
+
+@each_address
+def test_too_many_seconds(at):
+    """A request is answered once its seconds have passed, and so is the next one."""
+    server, _ = at
+    with served(at, most(seconds=WAIT)) as service:
+        client = Client(service)
+        client.ask(endless(server), server.answer("error 21 TooManySeconds\n"))
+        client.ask_a_little()
+
+
+@each_address
 def test_computed_too_long(at):
     with served(at, setup=BETWEEN) as service:
         client = Client(service)

@@ -3,7 +3,8 @@
 The steps of requests are counted here by hand. At a limit each is answered as without any, and just
 above it by the limit's fault, and so are the workers; whatever a request's answer is, the next one is
 answered too. A fault of the rules comes before a limit, and the limit of workers before the limit of steps.
-A request that would take minutes is refused at once. With a log, standard error has a line for each
+A request that would take minutes is refused at once, or evaluated no further once its seconds have passed.
+With a log, standard error has a line for each
 request, in order: its bytes, the bytes of its answer, its fault, its steps, also where it is out
 of memory, and microseconds, in which no request is waited for. Where standard error is closed or full
 the answers are the same. Options that a program doesn't have end it with status 2. A new request is a
@@ -90,6 +91,7 @@ OF_VERSION_3 = {
     ),
 }
 TOO_MANY_WORKERS, TOO_MANY_STEPS = "error 19 TooManyWorkers\n", "error 20 TooManySteps\n"
+TOO_MANY_SECONDS = "error 21 TooManySeconds\n"
 UNKNOWN_INPUT, BAD_WORKERS = "error 8 UnknownInput\n", "error 5 BadWorkers\n"
 NOT_JSON, TOO_LONG = "error 2 NotJson\n", "error 1 TooLong\n"
 GREATEST = 2**64 - 1
@@ -164,6 +166,13 @@ OPTIONS = {
     "zeros before a number, and a sign": (["--most-steps=003", "--most-workers", "+2"], [NEG]),
     "faults come first": (most(workers=0, steps=0), [FAULT, MANY_WORKERS]),
     "what takes long": (most(steps=1_000_000), [LONG, PLAIN]),
+    "no second": (most(seconds=0), [refused(it, TOO_MANY_SECONDS) for it in (PLAIN, NEG, ALONE)]),
+    "a second": (most(seconds=1), [PLAIN, refused(LONG, TOO_MANY_SECONDS), NEG]),
+    "enough seconds": (most(seconds=3600), [NEG, PLAIN]),
+    "the most seconds": (most(seconds=GREATEST), [NEG]),
+    "the last number of seconds counts": (most(seconds=0) + most(seconds=3600), [NEG]),
+    "faults before seconds": (most(seconds=0), [FAULT, MANY_WORKERS]),
+    "steps before seconds": (most(seconds=0, steps=2), [refused(NEG, TOO_MANY_STEPS)]),
     "too many steps": (most(steps=2), [refused(NEG, TOO_MANY_STEPS), PLAIN, refused(NEG, TOO_MANY_STEPS)]),
     "faults": ([], [FAULT, PLAIN, MANY_WORKERS, PLAIN]),
 }
@@ -212,6 +221,8 @@ REFUSED = {
     "--most-steps x": ("--most-steps", NOT_A_NUMBER),
     "--most-bytes x": ("--most-bytes", NOT_A_NUMBER),
     "--log --most-bytes": ("--most-bytes", MISSING),
+    "--most-seconds x": ("--most-seconds", NOT_A_NUMBER),
+    "--log --most-seconds": ("--most-seconds", MISSING),
     "--most-steps -1": ("--most-steps", NOT_A_NUMBER),
     "--most-steps=": ("--most-steps", NOT_A_NUMBER),
     "--most-workers=1=2": ("--most-workers", NOT_A_NUMBER),

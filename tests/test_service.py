@@ -154,7 +154,7 @@ def test_sigterm(service):
 
 # The options of the programs, and the expressions over three values that are asked, each with the line
 # of its answer and how the log begins and ends but for times.
-OPTIONS = [*most(steps=3), "--log"]
+OPTIONS = [*most(steps=3, seconds=3600), "--log"]
 ASKED = {
     '["neg","a"]': (line_of([-1, -2, -3], [3]), "fault=0 name=ok steps=3"),
     '["neg",["neg","a"]]': ("error 20 TooManySteps\n", "fault=20 name=TooManySteps steps=6"),

@@ -7,8 +7,8 @@ from typing import Any, Dict, Tuple, Type
 __all__ = [
     "BadArgument", "BadArity", "BadBlock", "BadField", "BadTensor", "BadVersion", "BadWorkers",
     "Fault", "NoMemory", "NotJson", "OutOfRange", "ProgramFailed", "ReadFault", "ShapeMismatch",
-    "TimedOut", "TooLarge", "TooLong", "TooManySteps", "TooManyWorkers", "UnknownInput", "UnknownOp",
-    "WriteFault",
+    "TimedOut", "TooLarge", "TooLong", "TooManySeconds", "TooManySteps", "TooManyWorkers", "UnknownInput",
+    "UnknownOp", "WriteFault",
 ]
 
 
@@ -73,6 +73,7 @@ class ReadFault(Fault, number=16): ...
 class WriteFault(Fault, number=17): ...
 class TooManyWorkers(Fault, number=19): ...
 class TooManySteps(Fault, number=20): ...
+class TooManySeconds(Fault, number=21): ...
 
 
 FAULTS: Dict[int, Type[Fault]] = {it.number: it for it in Fault.__subclasses__()}

@@ -1,7 +1,7 @@
 -- Frames of answers, and how they are written.
 use Rattle.std.proofs.Common.{◌≡◌, ◌≢◌, ◌⊎◌, ◌<◌, ◌≤◌, ◌+◌, ◌-◌, ◌/◌, ℕ, ℤ, Bool, true, false, ◌*◌, List, [], ◌∷◌, ◌++◌, length, map, take, drop, get_or, set, Option, Some, None, Result, Ok, Err, OnErr}
 use Rattle.std.proofs.Common.{option_map, refl, ap, sym, ◌∙◌, subst, append_assoc, arith, length-append, inl, inr}
-use Rattle.std.specs.Prelude.{nat_lt, if◌then◌else◌, MatchBool}
+use Rattle.std.specs.Prelude.{nat_lt, if◌then◌else◌, MatchBool, IsSome, is_ok}
 use Rattle.std.specs.Cow.{cow_slice_items}
 use Rattle.std.specs.List.{flat_map}
 use Rattle.std.proofs.Math.Seq.{take-add, take-append-add}
@@ -29,12 +29,13 @@ use Rattle.tensor_runner.specs.Work.{steps_of}
 use Rattle.tensor_runner.specs.declared.journal.AnyFault.{AnyFault}
 use Rattle.tensor_runner.specs.declared.journal.AnyFault.TheVariants as any
 use Rattle.tensor_runner.specs.declared.limits.LimitFault.{LimitFault}
+use Rattle.tensor_runner.specs.declared.limits.LimitFault.TheVariants.{TooManySeconds}
 use Rattle.tensor_runner.specs.declared.limits.Limits.{Limits}
 use Rattle.message_server.specs.History.{History, writing, AddsAtMost}
 use Rattle.message_server.specs.Pieces.{AppendsFront}
 use Rattle.message_server.proofs.Streams.{Appends-trans}
 use Rattle.frame_server.specs.Answer.{answer_of, answer_bytes, IsAnswerTo, IsShort}
-use Rattle.frame_server.specs.private.Answering.{front_bytes, bytes_in, values_in, Says, IsFrameRead, IsFrameUnder, IsFrameFrom, SaysTooLong, IsFaultOf, IsFaultFrame, IsTensorFrame, IsOwnFrame}
+use Rattle.frame_server.specs.private.Answering.{front_bytes, bytes_in, values_in, Says, IsFrameRead, IsFrameUnder, IsFrameFrom, SaysTooLong, IsFaultOf, IsFaultFrame, IsTensorFrame, IsLimitFrame, IsOwnFrame}
 use Rattle.frame_server.specs.Frame.{Frame, frame_bytes, frame_in, header_len, value_count, number_bytes, value_bytes, IsWhole}
 use Rattle.frame_server.specs.Limited.{frame_unless, frame_read, limit_frame, request_in, is_longer, IsFrameWithin}
 use Rattle.frame_server.specs.private.Taking.{IsTooLong, IsPassed, frame_under}
@@ -185,7 +186,7 @@ Says-of o p bytes is says = subst (λ (q : Option AnyFault). Says bytes q) (sym 
 
 -- the frame that answers a request, given the limit that it is over
 IsFrameUnder-asked : (limits : Limits) (bytes : List ℕ) (a : Asked) (over : Option LimitFault) (frame : AnswerFrame)
-    → request_in (frame_in bytes) ≡ Ok a → over ≡ over_limits limits a → IsOwnFrame over a frame → frame.steps ≡ Some (steps_of a)
+    → request_in (frame_in bytes) ≡ Ok a → over ≡ over_limits limits a → IsOwnFrame over limits.seconds a frame → frame.steps ≡ Some (steps_of a)
     → IsShort (header_len bytes) (value_count bytes) → IsFrameUnder limits bytes frame
 IsFrameUnder-asked limits bytes a (Some f) frame asks found own steps short =
     let refused : refusal limits (request_in (frame_in bytes)) ≡ Some f = ap (refusal limits) asks ∙ sym found in
@@ -194,7 +195,7 @@ IsFrameUnder-asked limits bytes a (Some f) frame asks found own steps short =
       says = Says-of frame.fault (Some (any.Limit f)) (bytes_in frame) own.1 own.0;
       has = inl (steps ∙ sym (ap steps_in asks));
     }
-IsFrameUnder-asked limits bytes a None frame asks found (inl own) steps short =
+IsFrameUnder-asked limits bytes a None frame asks found (inl (inl own)) steps short =
     let refused : refusal limits (request_in (frame_in bytes)) ≡ None = ap (refusal limits) asks ∙ sym found in
     record {
       within = inl (own.0 ∙ sym (ap (λ (o : Result Asked Fault). answer_bytes (answer_from o)) asks)
@@ -202,27 +203,35 @@ IsFrameUnder-asked limits bytes a None frame asks found (inl own) steps short =
       says = Says-of frame.fault None (bytes_in frame) own.1 (asked_tensor a, own.0);
       has = inl (steps ∙ sym (ap steps_in asks));
     }
-IsFrameUnder-asked limits bytes a None frame asks found (inr memory) steps short = record {
-  within = inr (memory.bytes, short);
+IsFrameUnder-asked limits bytes a None frame asks found (inl (inr memory)) steps short = record {
+  within = inr (inl (memory.bytes, short));
   says = Says-of frame.fault (Some (any.Request NoMemory)) (bytes_in frame) memory.fault memory.bytes;
+  has = inl (steps ∙ sym (ap steps_in asks));
+}
+IsFrameUnder-asked limits bytes a None frame asks found (inr stopped) steps short = record {
+  within = inr (inr (stopped.0.0, record { limited = stopped.1; asks = ap is_ok asks; allowed = ap (refusal limits) asks ∙ sym found }));
+  says = Says-of frame.fault (Some (any.Limit TooManySeconds)) (bytes_in frame) stopped.0.1 stopped.0.0;
   has = inl (steps ∙ sym (ap steps_in asks));
 }
 
 pub IsFrameUnder-own : (limits : Limits) (bytes : List ℕ) (kept : WholeFrame) (request : Request) (frame : AnswerFrame)
     → frame_under kept ≡ frame_in bytes
     → request_of_frame kept.header.items kept.values.items ≡ Ok (asked_under request)
-    → IsOwnFrame (over_limits limits (asked_under request)) (asked_under request) frame → frame.steps ≡ Some (steps_of (asked_under request))
+    → IsOwnFrame (over_limits limits (asked_under request)) limits.seconds (asked_under request) frame → frame.steps ≡ Some (steps_of (asked_under request))
     → IsShort (header_len bytes) (value_count bytes) → IsFrameUnder limits bytes frame
 IsFrameUnder-own limits bytes kept request frame same asks own steps short =
     IsFrameUnder-asked limits bytes (asked_under request) (over_limits limits (asked_under request)) frame (ap request_in (sym same) ∙ asks) refl own steps short
 
 -- the frame of a limit, or of what is asked for where there is none
-pub IsOwnFrame-limit : (over : Option LimitFault) (f : LimitFault) (a : Asked) (frame : AnswerFrame) → over ≡ Some f → bytes_in frame ≡ limit_frame f
-    → frame.fault ≡ Some (any.Limit f) → IsOwnFrame over a frame
-IsOwnFrame-limit over f a frame is bytes says = subst (λ (o : Option LimitFault). IsOwnFrame o a frame) (sym is) (bytes, says)
+pub IsOwnFrame-limit : (over : Option LimitFault) (seconds : Option ℕ) (f : LimitFault) (a : Asked) (frame : AnswerFrame) → over ≡ Some f
+    → bytes_in frame ≡ limit_frame f → frame.fault ≡ Some (any.Limit f) → IsOwnFrame over seconds a frame
+IsOwnFrame-limit over seconds f a frame is bytes says = subst (λ (o : Option LimitFault). IsOwnFrame o seconds a frame) (sym is) (bytes, says)
 
-pub IsOwnFrame-tensor : (over : Option LimitFault) (a : Asked) (frame : AnswerFrame) → over ≡ None → IsTensorFrame (asked_tensor a) frame → IsOwnFrame over a frame
-IsOwnFrame-tensor over a frame is own = subst (λ (o : Option LimitFault). IsOwnFrame o a frame) (sym is) own
+pub IsOwnFrame-tensor : (over : Option LimitFault) (own_seconds seconds : Option ℕ) (a : Asked) (frame : AnswerFrame) → over ≡ None → seconds ≡ own_seconds
+    → IsTensorFrame (asked_tensor a) frame ⊎ (IsLimitFrame TooManySeconds frame × IsSome seconds) → IsOwnFrame over own_seconds a frame
+IsOwnFrame-tensor over own_seconds seconds a frame is same own =
+    subst (λ (o : Option LimitFault). IsOwnFrame o own_seconds a frame) (sym is)
+    (subst (λ (s : Option ℕ). IsTensorFrame (asked_tensor a) frame ⊎ (IsLimitFrame TooManySeconds frame × IsSome s)) same own)
 
 -- the frame of a fault
 fault_is_no_tensor : (f : Fault) (t : Contents) → fault f ≡ tensor t → ⊥
@@ -236,7 +245,7 @@ fault-frame limits (Err g) f is = ap answer_bytes is
 IsFrameRead-fault : (limits : Limits) (bytes : List ℕ) (f : Fault) (answer : List ℕ) → IsFaultOf bytes f → answer ≡ answer_bytes (fault f)
     → IsFrameRead limits bytes answer
 IsFrameRead-fault limits bytes f answer (inl own) is = inl (is ∙ fault-frame limits (request_in (frame_in bytes)) f own)
-IsFrameRead-fault limits bytes f answer (inr memory) is = inr (is ∙ ap answer_bytes memory.0, memory.1)
+IsFrameRead-fault limits bytes f answer (inr memory) is = inr (inl (is ∙ ap answer_bytes memory.0, memory.1))
 
 -- what is no request has no steps
 steps-fault : (r : Result Asked Fault) (f : Fault) → fault f ≡ answer_from r → steps_in r ≡ None
@@ -307,7 +316,10 @@ unfolding frame_by
 within_by limits bytes frame true long is = inl (is.says.bytes ∙ sym (ap (frame_by limits bytes) long))
 within_by limits bytes frame false short is = elim is.within [
   | inl own ↦ inl (own ∙ sym (ap (frame_by limits bytes) short))
-  | inr memory ↦ inr (memory.0, memory.1, short)
+  | inr other ↦ elim other [
+    | inl memory ↦ inr (inl (memory.0, memory.1, short))
+    | inr stopped ↦ inr (inr (stopped, short))
+  ]
 ]
 
 pub IsFrameWithin-from : (limits : Limits) (bytes : List ℕ) (frame : AnswerFrame) → IsFrameFrom limits bytes frame → IsFrameWithin limits bytes (bytes_in frame)

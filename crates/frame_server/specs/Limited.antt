@@ -8,9 +8,10 @@ use Rattle.expr_reader.specs.declared.fault.Fault.TheVariants.{TooLong, NoMemory
 use Rattle.tensor_runner.specs.Answer.{Answer, fault}
 use Rattle.message_server.specs.History.{History}
 use Rattle.message_server.specs.Serving.{Framing, BreaksOff, GoesBy}
-use Rattle.tensor_runner.specs.Limited.{is_over, no_limits, refusal}
+use Rattle.tensor_runner.specs.Limited.{is_over, no_limits, refusal, MayStop}
 use Rattle.tensor_runner.specs.Status.{limit_number, limit_name}
 use Rattle.tensor_runner.specs.declared.limits.LimitFault.{LimitFault}
+use Rattle.tensor_runner.specs.declared.limits.LimitFault.TheVariants.{TooManySeconds}
 use Rattle.tensor_runner.specs.declared.limits.Limits.{Limits}
 use Rattle.frame_server.specs.Answer.{answer_of, answer_bytes, IsAnswerTo, IsShort}
 use Rattle.frame_server.specs.Frame.{Frame, frame_bytes, frame_in, header_len, value_count}
@@ -50,13 +51,19 @@ abbrev pub frame_within : Limits → List ℕ → List ℕ
 frame_within limits bytes =
     if is_longer limits bytes then answer_bytes (fault TooLong) else frame_read limits bytes
 
--- the frame that answers a frame under limits, or the frame of `NoMemory`; a frame that is too long
--- for every version is never answered by `NoMemory`
+-- the frame says that a frame takes too many seconds, and its evaluation may be stopped
+abbrev pub IsStoppedFrame : Limits → List ℕ → List ℕ → Type 0
+IsStoppedFrame limits bytes answer =
+    (answer ≡ limit_frame TooManySeconds) × MayStop limits (request_in (frame_in bytes))
+
+-- the frame that answers a frame under limits, or the frame of `NoMemory`, or the frame of one that
+-- takes too many seconds; a frame that is too long for every version is never answered by these two
 abbrev pub IsFrameWithin : Limits → List ℕ → List ℕ → Type 0
 IsFrameWithin limits bytes answer =
     (answer ≡ frame_within limits bytes)
-    ⊎ ((answer ≡ answer_bytes (fault NoMemory)) × IsShort (header_len bytes) (value_count bytes)
+    ⊎ (((answer ≡ answer_bytes (fault NoMemory)) × IsShort (header_len bytes) (value_count bytes)
     × (is_longer limits bytes ≡ false))
+    ⊎ (IsStoppedFrame limits bytes answer × (is_longer limits bytes ≡ false)))
 
 -- without limits, a frame that answers a frame is the frame of an answer to it
 abbrev pub PlainWithoutLimits : Type 0

@@ -6,7 +6,6 @@ ghost use Rattle.std.specs.Prelude.{◌++◌, ◌≤◌, MatchResult};
 ghost use Rattle.std.specs.List.{flat_map};
 ghost use Rattle.expr_reader.specs.Asked.{asked_under};
 ghost use Rattle.expr_reader.specs.Frame.{request_of_frame};
-ghost use Rattle.expr_reader.specs.Request.{asked_tensor};
 ghost use Rattle.frame_server.specs.Answer.{answer_bytes, dims_text, fault_text, IsShort};
 ghost use Rattle.frame_server.specs.private.Answering.{front_bytes, bytes_in, entry_of, IsOwnFrame, IsFaultOf};
 ghost use Rattle.frame_server.specs.private.Answering.{IsFrameFrom, IsFrameUnder, IsTensorFrame, IsFaultFrame};
@@ -25,8 +24,10 @@ use std::alloc::{AllocError, Global};
 use std::borrow::CowSlice;
 use std::sync::Wait;
 use std::thread::Threads;
+use std::time::Clock;
 use tensor_runner::{
-    AnyFault, Entry, LimitFault, Limits, RunFault, eval, over_limits, steps_of, unsigned_text,
+    Allowance, AnyFault, Entry, LimitFault, RunFault, eval_until, over_limits, steps_of,
+    unsigned_text,
 };
 
 /// The frame if an allocation fails: the sizes 17 and 0, and a header of 17 bytes. Like the other
@@ -42,6 +43,9 @@ const TOO_MANY_WORKERS: &[u8] = b"\x17\0\0\0\0\0\0\0\0\0\0\0\0\0\0\0error 19 Too
 /// The frame for a request that takes too many steps, with a header of 21 bytes.
 const TOO_MANY_STEPS: &[u8] = b"\x15\0\0\0\0\0\0\0\0\0\0\0\0\0\0\0error 20 TooManySteps";
 
+/// The frame for a request that takes too many seconds, with a header of 23 bytes.
+const TOO_MANY_SECONDS: &[u8] = b"\x17\0\0\0\0\0\0\0\0\0\0\0\0\0\0\0error 21 TooManySeconds";
+
 /// Returns the journal's note on a frame of `bytes` bytes that this frame answers.
 pub(crate) fn entry_of(bytes: u128, frame: &AnswerFrame) -> Entry
     ensures { result ≡ entry_of bytes frame.now }
@@ -54,34 +58,34 @@ pub(crate) fn entry_of(bytes: u128, frame: &AnswerFrame) -> Entry
     }
 }
 
-/// Returns the frame that answers a frame under limits. A frame that is longer than the limit of
-/// bytes isn't read.
-pub(crate) fn answer<RT: Threads + Wait + Sync>(
+/// Returns the frame that answers a frame, by what is allowed to it. A frame that is longer than the
+/// limit of bytes isn't read.
+pub(crate) fn answer<RT: Threads + Wait + Sync, K: Clock>(
     rt: &RT,
     alloc: Global,
-    limits: Limits,
+    allowance: &Allowance<'_, K>,
     next: NextFrame,
 ) -> AnswerFrame
     ensures { (bytes : List ℕ) → IsWhole bytes → IsKept bytes next
-        → IsFrameFrom limits bytes result }
+        → IsFrameFrom allowance.now.limits bytes result }
 {
-    if limits.is_too_long(next.len()) {
+    if allowance.limits.is_too_long(next.len()) {
         return too_long();
     }
-    answer_kept(rt, alloc, limits, next)
+    answer_kept(rt, alloc, allowance, next)
 }
 
-/// Returns the frame that answers a frame of no more bytes than the limits allow.
-fn answer_kept<RT: Threads + Wait + Sync>(
+/// Returns the frame that answers a frame of no more bytes than are allowed.
+fn answer_kept<RT: Threads + Wait + Sync, K: Clock>(
     rt: &RT,
     alloc: Global,
-    limits: Limits,
+    allowance: &Allowance<'_, K>,
     next: NextFrame,
 ) -> AnswerFrame
     ensures { (bytes : List ℕ) → IsWhole bytes → IsKept bytes next
-        → IsFrameUnder limits bytes result }
+        → IsFrameUnder allowance.now.limits bytes result }
 {
-    match answered(rt, alloc, limits, next) {
+    match answered(rt, alloc, allowance, next) {
         Ok(frame) => frame,
         Err(fault) => refusal(alloc, fault),
     }
@@ -90,54 +94,58 @@ fn answer_kept<RT: Threads + Wait + Sync>(
 /// Returns the frame of the request's tensor, or of the limit that the request is over, or of
 /// `NoMemory` if the evaluation runs out of memory. A fault of the request's frame is returned as
 /// an error.
-fn answered<RT: Threads + Wait + Sync>(
+fn answered<RT: Threads + Wait + Sync, K: Clock>(
     rt: &RT,
     alloc: Global,
-    limits: Limits,
+    allowance: &Allowance<'_, K>,
     next: NextFrame,
 ) -> Result<AnswerFrame, Fault>
     ensures { (bytes : List ℕ) → IsWhole bytes → IsKept bytes next
-        → MatchResult result (IsFrameUnder limits bytes) (IsFaultOf bytes) }
+        → MatchResult result (IsFrameUnder allowance.now.limits bytes) (IsFaultOf bytes) }
 {
     match next {
-        NextFrame::Whole(frame) => answered_whole(rt, alloc, limits, frame),
+        NextFrame::Whole(frame) => answered_whole(rt, alloc, allowance, frame),
         NextFrame::Passed(fault, _) => Err(fault),
     }
 }
 
 /// Returns the answer to a frame that was kept, as `answered` does.
-fn answered_whole<RT: Threads + Wait + Sync>(
+fn answered_whole<RT: Threads + Wait + Sync, K: Clock>(
     rt: &RT,
     alloc: Global,
-    limits: Limits,
+    allowance: &Allowance<'_, K>,
     frame: WholeFrame,
 ) -> Result<AnswerFrame, Fault>
     ensures { (bytes : List ℕ) → frame_under frame ≡ frame_in bytes
         → IsShort (header_len bytes) (value_count bytes)
-        → MatchResult result (IsFrameUnder limits bytes) (IsFaultOf bytes) }
+        → MatchResult result (IsFrameUnder allowance.now.limits bytes) (IsFaultOf bytes) }
 {
     match requested(alloc, &frame) {
-        Ok(request) => Ok(own_frame(rt, alloc, limits, &request)),
+        Ok(request) => Ok(own_frame(rt, alloc, allowance, &request)),
         Err(fault) => Err(fault),
     }
 }
 
 /// Returns the frame of the tensor that a request asks for, or of the limit that it is over, or of
 /// `NoMemory`.
-fn own_frame<RT: Threads + Wait + Sync>(
+fn own_frame<RT: Threads + Wait + Sync, K: Clock>(
     rt: &RT,
     alloc: Global,
-    limits: Limits,
+    allowance: &Allowance<'_, K>,
     request: &Request<'_>,
 ) -> AnswerFrame
-    ensures frame { IsOwnFrame (over_limits limits (asked_under request.now))
-        (asked_under request.now) result }
+    ensures frame { IsOwnFrame (over_limits allowance.now.limits (asked_under request.now))
+        allowance.now.limits.seconds (asked_under request.now) result }
     ensures steps { result.steps ≡ Some (steps_of (asked_under request.now)) }
 {
     let steps = steps_of(request);
-    match over_limits(limits, request, steps) {
+    match over_limits(allowance.limits, request, steps) {
         Some(fault) => limit_frame(fault, steps),
-        None => tensor_frame(rt, alloc, request, steps),
+        None => match eval_until(rt, alloc, request, &allowance.deadline) {
+            Ok(Some(tensor)) => tensor_frame(alloc, tensor, steps),
+            Ok(None) => too_many_seconds(steps),
+            Err(RunFault::NoMemory) => no_memory(Some(steps)),
+        },
     }
 }
 
@@ -150,6 +158,7 @@ fn limit_frame(fault: LimitFault, steps: u128) -> AnswerFrame
     match fault {
         LimitFault::TooManyWorkers => too_many_workers(steps),
         LimitFault::TooManySteps => too_many_steps(steps),
+        LimitFault::TooManySeconds => too_many_seconds(steps),
     }
 }
 
@@ -181,21 +190,25 @@ fn too_many_steps(steps: u128) -> AnswerFrame
     }
 }
 
-/// Evaluates a request of `steps` steps and returns the frame of its tensor, or the frame of
-/// `NoMemory`.
-fn tensor_frame<RT: Threads + Wait + Sync>(
-    rt: &RT,
-    alloc: Global,
-    request: &Request,
-    steps: u128,
-) -> AnswerFrame
-    ensures frame { IsTensorFrame (asked_tensor (asked_under request.now)) result }
+/// Returns the frame for a request of `steps` steps that takes too many seconds.
+fn too_many_seconds(steps: u128) -> AnswerFrame
+    ensures bytes { bytes_in result ≡ limit_frame LimitFault.TooManySeconds }
+    ensures fault { result.fault ≡ Some (AnyFault.Limit LimitFault.TooManySeconds) }
     ensures steps { result.steps ≡ Some steps }
 {
-    let tensor = match eval(rt, alloc, request) {
-        Ok(tensor) => tensor,
-        Err(RunFault::NoMemory) => return no_memory(Some(steps)),
-    };
+    AnswerFrame {
+        front: CowSlice::Borrowed(TOO_MANY_SECONDS),
+        tensor: None,
+        fault: Some(AnyFault::Limit(LimitFault::TooManySeconds)),
+        steps: Some(steps),
+    }
+}
+
+/// Returns the frame of a tensor of a request of `steps` steps, or the frame of `NoMemory`.
+fn tensor_frame(alloc: Global, tensor: Tensor<'static>, steps: u128) -> AnswerFrame
+    ensures frame { IsTensorFrame tensor.entry result }
+    ensures steps { result.steps ≡ Some steps }
+{
     match front_of(alloc, &tensor) {
         Ok(front) => value_frame(front, tensor, steps),
         Err(_) => no_memory(Some(steps)),

@@ -11,16 +11,19 @@ use message_server::{Client, Ending, ending_of};
 use std::alloc::Global;
 use std::sync::Wait;
 use std::thread::Threads;
+use std::time::Clock;
 use tensor_runner::{Journal, Service};
 
 /// Answers the frames of a client, as [`answer_frames`] does, and returns what the program ends
 /// with.
-pub fn serve_frames<RT: Threads + Wait + Sync, C: Client, J: Journal + Drop>(
+pub fn serve_frames<RT, C: Client, J: Journal + Drop, K: Clock + Drop>(
     rt: &RT,
     alloc: Global,
-    service: Service<J>,
+    service: Service<J, K>,
     client: &mut C,
 ) -> Ending
+where
+    RT: Threads + Wait + Sync,
     requires by_frames { GoesByFramesWithin service.limits C.owes_nothing }
     requires new { IfSome (C.history client.old) IsNew }
     // All frames were answered, or the reading stopped, or a write failed.

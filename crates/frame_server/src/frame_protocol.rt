@@ -19,13 +19,14 @@ use message_server::{Client, InputBuffer, Next, Protocol, StreamFault};
 use std::alloc::Global;
 use std::sync::Wait;
 use std::thread::Threads;
-use tensor_runner::{Entry, Journal, Limits, Service};
+use std::time::Clock;
+use tensor_runner::{Allowance, Entry, Journal, Limits, Service};
 
 /// The protocol of frames, answered as a service says.
 #[derive(Drop)]
-pub(crate) struct FrameProtocol<J: Journal + Drop> {
+pub(crate) struct FrameProtocol<J: Journal + Drop, K: Clock + Drop> {
     pub(crate) alloc: Global,
-    pub(crate) service: Service<J>,
+    pub(crate) service: Service<J, K>,
     /// The buffer for the values of answers, used again for each answer.
     pub(crate) room: OutputBuffer,
 }
@@ -37,7 +38,8 @@ pub(crate) struct NotedFrame {
     entry: Entry,
 }
 
-impl<RT: Threads + Wait + Sync, J: Journal + Drop> Protocol<RT> for FrameProtocol<J> {
+impl<RT: Threads + Wait + Sync, J: Journal + Drop, K: Clock + Drop> Protocol<RT>
+    for FrameProtocol<J, K> {
     type Rules = Limits;
 
     type Message = NextFrame;
@@ -79,7 +81,8 @@ impl<RT: Threads + Wait + Sync, J: Journal + Drop> Protocol<RT> for FrameProtoco
     fn answer(&mut self, rt: &RT, next: NextFrame) -> NotedFrame {
         self.service.journal.begin();
         let length = next.len();
-        let frame = answer(rt, self.alloc, self.service.limits, next);
+        let allowance = Allowance::begin(self.service.limits, &self.service.clock);
+        let frame = answer(rt, self.alloc, &allowance, next);
         let entry = entry_of(length, &frame);
         NotedFrame { frame, entry }
     }

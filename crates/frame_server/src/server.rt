@@ -14,13 +14,15 @@ use message_server::{Client, StreamFault, answer_messages};
 use std::alloc::Global;
 use std::sync::Wait;
 use std::thread::Threads;
+use std::time::Clock;
 use tensor_runner::{Journal, Service};
 
 /// Answers each frame of a client, in order, until the client's bytes end. The answer is the frame
 /// of the tensor that the request's workers compute, or of the request's first fault. A request
 /// that is over a limit of the service is not evaluated, and is answered by the frame of this
-/// limit. Each answer is written before more is read, and is noted in the service's journal:
-/// `begin` once the frame is read, `end` once its answer is written.
+/// limit; a request that takes more seconds than the service allows is evaluated no further. Each
+/// answer is written before more is read, and is noted in the service's journal: `begin` once the
+/// frame is read, `end` once its answer is written.
 ///
 /// A frame that is too long is skipped and answered by `TooLong`. If an allocation fails, only the
 /// frame that needed it is answered by `NoMemory`. Between two frames two buffers of 65,536 bytes
@@ -30,12 +32,14 @@ use tensor_runner::{Journal, Service};
 ///
 /// [`StreamFault::ReadFault`] if a read fails or the client's bytes end inside a frame,
 /// [`StreamFault::WriteFault`] if a write fails or takes no byte.
-pub fn answer_frames<RT: Threads + Wait + Sync, C: Client, J: Journal + Drop>(
+pub fn answer_frames<RT, C: Client, J: Journal + Drop, K: Clock + Drop>(
     rt: &RT,
     alloc: Global,
-    service: Service<J>,
+    service: Service<J, K>,
     client: &mut C,
 ) -> Result<(), StreamFault>
+where
+    RT: Threads + Wait + Sync,
     requires by_frames { GoesByFramesWithin service.limits C.owes_nothing }
     requires new { IfSome (C.history client.old) IsNew }
 

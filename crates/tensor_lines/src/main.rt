@@ -7,32 +7,20 @@ use std::io::{BufWriter, ErrorKind};
 use std::process::ExitCode;
 use std::{env, io};
 use tensor_runner::{
-    Command, Connection, CountedReader, CountedWriter, LineJournal, ServeOptions, Service,
-    Uninterrupted, VERSION, command_of, grow_stack, serve_lines,
+    Connection, CountedReader, CountedWriter, LineJournal, Program, ServeOptions, Service,
+    Uninterrupted, grow_stack, serve_lines,
 };
 
-const USAGE: &str =
-    "usage: tensor_lines [--most-workers N] [--most-steps N] [--most-bytes N] [--log] < LINES\n";
+const PROGRAM: Program = Program {
+    name: "tensor_lines",
+    reads: "LINES",
+};
 
 /// Reads the words after the program's name. Returns the options by which to serve, or the status
-/// with which to end once help, the version or a wrong option is printed.
+/// with which to end.
 fn asked(rt: &HostRuntime) -> io::Result<Result<ServeOptions, u8>> {
     let words: Vec<String> = env::args(rt)?.skip(1).collect(rt.alloc())?;
-    match command_of(&words) {
-        Ok(Command::Serve(options)) => Ok(Ok(options)),
-        Ok(Command::Help) => {
-            print!(rt; "{USAGE}")?;
-            Ok(Err(0))
-        }
-        Ok(Command::Version) => {
-            println!(rt; "tensor_lines {VERSION}")?;
-            Ok(Err(0))
-        }
-        Err(refused) => {
-            eprint!(rt; "tensor_lines: {refused}\n{USAGE}")?;
-            Ok(Err(2))
-        }
-    }
+    PROGRAM.asked(&words, &mut rt.stdout(), &mut rt.stderr())
 }
 
 /// Ends a program for which an allocation failed before its first request.
@@ -59,15 +47,16 @@ fn main(rt: HostRuntime) -> io::Result<ExitCode> {
         let Ok(writer) = BufWriter::new(rt.alloc(), rt.stderr()) else {
             return no_memory(&rt);
         };
-        let Ok(clock) = rt.clone() else {
-            return no_memory(&rt);
-        };
-        Some(LineJournal::new(writer, clock))
+        Some(LineJournal::new(writer, &rt))
     } else {
         None
     };
-    let limits = options.limits;
-    let ending = serve_lines(&rt, rt.alloc(), Service { limits, journal }, &mut client);
+    let service = Service {
+        limits: options.limits,
+        journal,
+        clock: &rt,
+    };
+    let ending = serve_lines(&rt, rt.alloc(), service, &mut client);
     if let Some(complaint) = ending.complaint {
         eprint!(rt; "{complaint}")?;
     }

@@ -13,13 +13,14 @@ pub(crate) mod step_kernel;
 pub(crate) mod workers;
 
 ghost use Rattle.std.specs.Prelude.{◌≡◌, ◌<◌, ◌≤◌, ◌+◌, ◌↔◌, ◌++◌, drop, length};
-ghost use Rattle.std.specs.Prelude.{vec_capacity, IfOk, IfErr, IsErrOf};
+ghost use Rattle.std.specs.Prelude.{vec_capacity, Ok, None, IfOk, IfErr, IfSome, IsErrOf, IsSome};
 ghost use Rattle.parallel_for.specs.Setup.{IsPoolSize, IsNoPoolSize, AreNoPartitions};
 ghost use Rattle.tensor_ops.specs.Sequence.{worked_out};
 ghost use Rattle.tensor_reduce.specs.Plan.{steps_in, terms_in};
 ghost use Rattle.tensor_reduce.specs.Plan.{last_tensor, AreReady};
 ghost use Rattle.tensor_reduce.specs.private.Held.{AreHeld};
 
+use crate::deadline::{Deadline, NoClock};
 use crate::plan::Plan;
 use crate::running::freeing::{free_unread, push_freed};
 use crate::running::scheduled::of_stage;
@@ -30,6 +31,7 @@ use parallel_for::{ForFault, PoolFault, Setup};
 use std::alloc::Global;
 use std::sync::Wait;
 use std::thread::Threads;
+use std::time::Clock;
 use tensor_ops::{Inputs, Tensor};
 
 /// Returns the tensor of a plan's last step. The steps run one after the other. Each goes by blocks
@@ -75,44 +77,103 @@ pub fn run_plan<RT: Threads + Wait + Sync>(
         × AreNoPartitions setup.now.workers setup.now.partitions.items) }
     ensures no_other { IsErrOf result (ForFault.Pool PoolFault.NoMemory) → ⊥ }
 {
-    if block == 0 {
+    let clock = NoClock;
+    let never = Deadline::after(&clock, None);
+    let run = PlanRun {
+        setup,
+        block,
+        plan,
+        inputs,
+    };
+    match run_plan_until(rt, alloc, &run, &never)? {
+        Some(tensor) => Ok(tensor),
+        None => unreachable!(),
+    }
+}
+
+/// What [`run_plan`] takes: a plan, the inputs over which it is run, the setup of its pools, and the
+/// size of a block.
+#[derive(Clone, Copy, Drop)]
+pub struct PlanRun<'a, 'i> {
+    /// The setup of the pools.
+    pub setup: &'a Setup,
+    /// How many places a block has.
+    pub block: u64,
+    /// The plan.
+    pub plan: &'a Plan,
+    /// The inputs over which the plan is run.
+    pub inputs: &'a Inputs<'i>,
+}
+
+/// Runs a plan as [`run_plan`] does, and returns `None` if the deadline passes before the last stage
+/// begins. A stage is a step with the operands that are fused into it. The clock is read before
+/// each stage, by the calling thread; a stage that has begun goes on to its end.
+///
+/// # Errors
+///
+/// The errors of [`run_plan`], whether the deadline has passed or not.
+pub fn run_plan_until<RT: Threads + Wait + Sync, K: Clock>(
+    rt: &RT,
+    alloc: Global,
+    run: &PlanRun<'_, '_>,
+    deadline: &Deadline<'_, K>,
+) -> Result<Option<Tensor<'static>>, ForFault>
+    requires { AreReady (steps_in run.now.plan.now) run.now.inputs.now.tensors }
+    ensures tensor { IfOk result (λ found. IfSome found (λ t. t ≡ last_tensor
+        (worked_out (terms_in (steps_in run.now.plan.now)) run.now.inputs.now.tensors))) }
+    ensures stopped { result ≡ Ok None → IsSome deadline.now.seconds }
+
+    ensures bad_block { IsErrOf result ForFault.BadBlock ↔ (run.now.block ≡ 0) }
+    ensures bad_workers { IsErrOf result (ForFault.Pool PoolFault.BadWorkers)
+        ↔ ((0 < run.now.block) × IsNoPoolSize run.now.setup.now.workers) }
+    ensures bad_partition { IsErrOf result (ForFault.Pool PoolFault.BadPartition)
+        ↔ ((0 < run.now.block) × IsPoolSize run.now.setup.now.workers
+        × AreNoPartitions run.now.setup.now.workers run.now.setup.now.partitions.items) }
+    ensures no_other { IsErrOf result (ForFault.Pool PoolFault.NoMemory) → ⊥ }
+{
+    if run.block == 0 {
         return Err(ForFault::BadBlock);
     }
-    if let Err(fault) = setup.check() {
+    if let Err(fault) = run.setup.check() {
         return Err(ForFault::Pool(fault));
     }
     let workers = Workers {
         rt,
         alloc,
-        setup,
-        block,
-        count: setup.workers,
+        setup: run.setup,
+        block: run.block,
+        count: run.setup.workers,
     };
-    work_out(&workers, plan.steps(), inputs)
+    work_out(&workers, run.plan.steps(), run.inputs, deadline)
 }
 
-/// Runs steps, of which there is at least one.
-fn work_out<RT: Threads + Wait + Sync>(
+/// Runs steps, of which there is at least one, unless the deadline passes first.
+fn work_out<RT: Threads + Wait + Sync, K: Clock>(
     workers: &Workers<'_, RT>,
     steps: &[Step],
     inputs: &Inputs,
-) -> Result<Tensor<'static>, ForFault>
+    deadline: &Deadline<'_, K>,
+) -> Result<Option<Tensor<'static>>, ForFault>
     requires ready { AreReady steps.now inputs.now.tensors }
     requires some { 0 < length steps.now }
-    ensures tensor { IfOk result (λ t.
-        t ≡ last_tensor (worked_out (terms_in steps.now) inputs.now.tensors)) }
+    ensures tensor { IfOk result (λ found. IfSome found (λ t.
+        t ≡ last_tensor (worked_out (terms_in steps.now) inputs.now.tensors))) }
+    ensures stopped { result ≡ Ok None → IsSome deadline.now.seconds }
     ensures faults { IfErr result (λ fault. fault ≡ ForFault.NoMemory) }
 {
     let mut tensors = Vec::with_capacity(workers.alloc, steps.len())?;
     let mut done = 0;
     while done < steps.len() {
+        if deadline.has_passed() {
+            return Ok(None);
+        }
         done = advance(workers, steps, done, inputs, &mut tensors)?;
         free_unread(workers.alloc, &steps[done..], inputs, &mut tensors);
     }
     let Some(last) = tensors.pop() else {
         unreachable!()
     };
-    Ok(last)
+    Ok(Some(last))
 }
 
 /// Runs the next stage of the steps left. Returns how many steps are done then.

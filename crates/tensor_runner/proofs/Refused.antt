@@ -1,5 +1,5 @@
 -- The line that answers a text, where there are limits.
-use Rattle.std.specs.Prelude.{MatchBool}
+use Rattle.std.specs.Prelude.{MatchBool, IsSome, is_ok}
 use Rattle.std.proofs.Common.{◌≡◌, ◌⊎◌, ℕ, ◌<◌, ◌≤◌, Bool, true, false, if◌then◌else◌, List, Option, Some, None, Result, Ok, Err, length, take}
 use Rattle.std.proofs.Common.{refl, ap, sym, subst, ◌∙◌, inl, inr}
 use Rattle.std.proofs.Math.Decide.{dec_le}
@@ -13,28 +13,32 @@ use Rattle.expr_reader.specs.declared.request.Request.{Request}
 use Rattle.expr_reader.specs.declared.fault.Fault.TheVariants.{TooLong, NoMemory}
 use Rattle.tensor_runner.specs.Answer.{tensor, fault, answer_of, answer_from, line_of, tensor_line, fault_line}
 use Rattle.tensor_runner.specs.Journal.{any_line, Says, steps_in, HasSteps}
-use Rattle.tensor_runner.specs.Limited.{over_limits, refusal, line_unless, line_read, limit_line, is_longer, IsLineWithin}
+use Rattle.tensor_runner.specs.Limited.{over_limits, refusal, line_unless, line_read, limit_line, is_longer, MayStop, IsLineWithin}
 use Rattle.tensor_runner.specs.Line.{IsFaultOf, IsFaultLine, IsLineRead, SaysTooLong, IsLineUnder, IsLineFrom}
 use Rattle.tensor_runner.specs.Work.{steps_of}
 use Rattle.tensor_runner.specs.declared.answer.Line.{Line}
 use Rattle.tensor_runner.specs.declared.journal.AnyFault.{AnyFault}
 use Rattle.tensor_runner.specs.declared.journal.AnyFault.TheVariants as any
 use Rattle.tensor_runner.specs.declared.limits.LimitFault.{LimitFault}
+use Rattle.tensor_runner.specs.declared.limits.LimitFault.TheVariants.{TooManySeconds}
 use Rattle.tensor_runner.specs.declared.limits.Limits.{Limits}
 use Rattle.tensor_runner.specs.declared.status.Status.TheVariants as status
+use Rattle.tensor_runner.proofs.Unlimited.{none_is_no_limit}
 use Rattle.tensor_runner.proofs.Lines.{request_of-long, request_of-take, short-take, IsAnswerTo-take}
 
 -- a text that is known by its prefix
 within-take : (limits : Limits) (n : ℕ) (text line : List ℕ) → most_bytes < n → IsLineRead limits (take n text) line → IsLineRead limits text line
 within-take limits n text line more (inl own) =
     inl (own ∙ ap (λ (r : Result Asked Fault). line_unless (refusal limits r) (line_of (answer_from r))) (request_of-take n text more))
-within-take limits n text line more (inr memory) = inr (memory.0, short-take n text more memory.1)
+within-take limits n text line more (inr (inl memory)) = inr (inl (memory.0, short-take n text more memory.1))
+within-take limits n text line more (inr (inr stopped)) =
+    inr (inr (stopped.0, subst (λ (r : Result Asked Fault). MayStop limits r) (request_of-take n text more) stopped.1))
 
 pub IsLineUnder-take : (limits : Limits) (n : ℕ) (text : List ℕ) (line : Line) → most_bytes < n → IsLineUnder limits (take n text) line → IsLineUnder limits text line
 IsLineUnder-take limits n text line more is = record {
   within = within-take limits n text (cow_slice_items line.bytes) more is.within;
-  own = λ none.
-      let own = is.own (ap (refusal limits) (request_of-take n text more) ∙ none) in
+  own = λ none unlimited.
+      let own = is.own (ap (refusal limits) (request_of-take n text more) ∙ none) unlimited in
       record {
         answer = own.answer;
         answers = IsAnswerTo-take n text own.answer more own.answers;
@@ -55,7 +59,7 @@ fault-line limits (Err g) f is = ap line_of is
 
 within-fault : (limits : Limits) (text : List ℕ) (f : Fault) (line : List ℕ) → IsFaultOf text f → line ≡ fault_line f → IsLineRead limits text line
 within-fault limits text f line (inl own) is = inl (is ∙ fault-line limits (request_of text) f own)
-within-fault limits text f line (inr memory) is = inr (is ∙ ap line_of memory.0, memory.1)
+within-fault limits text f line (inr memory) is = inr (inl (is ∙ ap line_of memory.0, memory.1))
 
 Says-fault : (f : AnyFault) (o : Option AnyFault) (bytes : List ℕ) → o ≡ Some f → bytes ≡ any_line f → Says bytes o
 Says-fault f o bytes is written = subst (λ (p : Option AnyFault). Says bytes p) (sym is) written
@@ -64,7 +68,7 @@ IsLineUnder-told : (limits : Limits) (text : List ℕ) (f : Fault) (line : Line)
     → line.status ≡ status.Fault → HasSteps (request_of text) line.fault line.steps → IsLineUnder limits text line
 IsLineUnder-told limits text f line of is status has = record {
   within = within-fault limits text f (cow_slice_items line.bytes) of is.bytes;
-  own = λ none. record { answer = fault f; answers = of; written = is.bytes; status = status };
+  own = λ none unlimited. record { answer = fault f; answers = of; written = is.bytes; status = status };
   says = Says-fault (any.Request f) line.fault (cow_slice_items line.bytes) is.fault is.bytes;
   has = has;
 }
@@ -98,10 +102,22 @@ IsLineUnder-limit limits text a over f line asks found some bytes says steps =
     let is : refusal limits (request_of text) ≡ Some f = ap (refusal limits) asks ∙ sym found ∙ some in
     record {
       within = inl (bytes ∙ sym (ap (λ (o : Option LimitFault). line_unless o (line_of (answer_of text))) is));
-      own = λ none. absurd (some_is_no_none f (sym is ∙ none));
+      own = λ none unlimited. absurd (some_is_no_none f (sym is ∙ none));
       says = Says-fault (any.Limit f) line.fault (cow_slice_items line.bytes) says bytes;
       has = inl (steps ∙ sym (ap steps_in asks));
     }
+
+-- the line of a request that takes too many seconds
+pub IsLineUnder-stopped : (limits : Limits) (text : List ℕ) (a : Asked) (over : Option LimitFault) (line : Line)
+    → request_of text ≡ Ok a → over ≡ over_limits limits a → over ≡ None → IsSome limits.seconds
+    → cow_slice_items line.bytes ≡ limit_line TooManySeconds → line.fault ≡ Some (any.Limit TooManySeconds)
+    → line.steps ≡ Some (steps_of a) → IsLineUnder limits text line
+IsLineUnder-stopped limits text a over line asks found nothing limited bytes says steps = record {
+  within = inr (inr (bytes, record { limited = limited; asks = ap is_ok asks; allowed = ap (refusal limits) asks ∙ sym found ∙ nothing }));
+  own = λ none unlimited. absurd (none_is_no_limit limits.seconds limited unlimited);
+  says = Says-fault (any.Limit TooManySeconds) line.fault (cow_slice_items line.bytes) says bytes;
+  has = inl (steps ∙ sym (ap steps_in asks));
+}
 
 -- the line of a tensor
 Says-tensor : (t : Contents) (o : Option AnyFault) (bytes : List ℕ) → o ≡ None → bytes ≡ tensor_line t → Says bytes o
@@ -115,7 +131,7 @@ IsLineUnder-tensor limits text a over line asks found nothing bytes status none 
     let own : answer_of text ≡ tensor (asked_tensor a) = ap answer_from asks in
     record {
       within = inl (bytes ∙ sym (ap line_of own) ∙ sym (ap (λ (o : Option LimitFault). line_unless o (line_of (answer_of text))) is));
-      own = λ over_none. record { answer = tensor (asked_tensor a); answers = inl (sym own); written = bytes; status = status };
+      own = λ over_none unlimited. record { answer = tensor (asked_tensor a); answers = inl (sym own); written = bytes; status = status };
       says = Says-tensor (asked_tensor a) line.fault (cow_slice_items line.bytes) none bytes;
       has = inl (steps ∙ sym (ap steps_in asks));
     }
@@ -170,7 +186,10 @@ unfolding line_by
 within_by limits text line true long is = inl (is.says.bytes ∙ sym (ap (line_by limits text) long))
 within_by limits text line false short is = elim is.within [
   | inl own ↦ inl (own ∙ sym (ap (line_by limits text) short))
-  | inr memory ↦ inr (memory.0, memory.1, short)
+  | inr other ↦ elim other [
+    | inl memory ↦ inr (inl (memory.0, memory.1, short))
+    | inr stopped ↦ inr (inr (stopped, short))
+  ]
 ]
 
 pub IsLineWithin-from : (limits : Limits) (text : List ℕ) (line : Line) → IsLineFrom limits text line → IsLineWithin limits text (cow_slice_items line.bytes)

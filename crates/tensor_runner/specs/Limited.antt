@@ -1,6 +1,7 @@
 -- The limits of a server, and the lines that answer texts under limits.
 use Rattle.std.specs.Prelude.{◌≡◌, ◌⊎◌, ◌≤◌, ℕ, nat_lt, Bool, false, if◌then◌else◌, decimal, codes}
-use Rattle.std.specs.Prelude.{List, [], ◌∷◌, ◌++◌, length, min, Option, Some, None, Result, Ok, Err}
+use Rattle.std.specs.Prelude.{List, [], ◌∷◌, ◌++◌, length, min, Option, Some, None, IsSome}
+use Rattle.std.specs.Prelude.{Result, Ok, Err, IsOk}
 use Rattle.expr_reader.specs.Limits.{most_bytes}
 use Rattle.expr_reader.specs.Request.{Asked, request_of}
 use Rattle.expr_reader.specs.declared.fault.Fault.{Fault}
@@ -15,18 +16,20 @@ use Rattle.tensor_runner.specs.Work.{steps_of}
 use Rattle.tensor_runner.specs.declared.limits.LimitFault.{LimitFault}
 use Rattle.tensor_runner.specs.declared.limits.LimitFault.TheVariants.{TooManyWorkers}
 use Rattle.tensor_runner.specs.declared.limits.LimitFault.TheVariants.{TooManySteps}
+use Rattle.tensor_runner.specs.declared.limits.LimitFault.TheVariants.{TooManySeconds}
 use Rattle.tensor_runner.specs.declared.limits.Limits.{Limits}
 
 -- limits that refuse no request
 abbrev pub no_limits : Limits
-no_limits = record { workers = None; steps = None; bytes = None }
+no_limits = record { workers = None; steps = None; bytes = None; seconds = None }
 
 -- whether a number is over a limit; `None` is no limit
 abbrev pub is_over : Option ℕ → ℕ → Bool
 is_over None n = false
 is_over (Some most) n = nat_lt most n
 
--- the limit that a request is over, if any; the limit of workers comes first
+-- the limit that a request is over, if any; the limit of workers comes first. How many seconds its
+-- evaluation takes does not follow from the request, and is not asked here.
 abbrev pub over_limits : Limits → Asked → Option LimitFault
 over_limits limits a =
     if is_over limits.workers a.workers then Some TooManyWorkers
@@ -61,12 +64,26 @@ abbrev pub line_within : Limits → List ℕ → List ℕ
 line_within limits text =
     if is_longer limits text then fault_line TooLong else line_read limits text
 
--- the line that answers a text under limits, or the line of `NoMemory`; a text that is too long is
--- never answered by `NoMemory`
+-- the evaluation may be stopped: seconds are limited, and what was read is a request that is over
+-- no other limit
+pub record MayStop (limits : Limits) (read : Result Asked Fault) : Type 0 where
+  pub limited : IsSome limits.seconds
+  pub asks : IsOk read
+  pub allowed : refusal limits read ≡ None
+
+-- the line says that a text takes too many seconds, and its evaluation may be stopped
+abbrev pub IsStoppedLine : Limits → List ℕ → List ℕ → Type 0
+IsStoppedLine limits text line =
+    (line ≡ limit_line TooManySeconds) × MayStop limits (request_of text)
+
+-- the line that answers a text under limits, or the line of `NoMemory`, or the line of a text that
+-- takes too many seconds; a text that is too long is never answered by these two
 abbrev pub IsLineWithin : Limits → List ℕ → List ℕ → Type 0
 IsLineWithin limits text line =
     (line ≡ line_within limits text)
-    ⊎ ((line ≡ fault_line NoMemory) × (length text ≤ most_bytes) × (is_longer limits text ≡ false))
+    ⊎ (((line ≡ fault_line NoMemory) × (length text ≤ most_bytes)
+    × (is_longer limits text ≡ false))
+    ⊎ (IsStoppedLine limits text line × (is_longer limits text ≡ false)))
 
 -- without limits, a line that answers a text is the line of an answer to it
 abbrev pub PlainWithoutLimits : Type 0

@@ -7,10 +7,11 @@ use Rattle.serde_json.specs.Data.{Data, Items, number}
 use Rattle.serde_json.specs.View.{items_of}
 use Rattle.serde_json.specs.Find.{of_integer}
 use Rattle.expr_reader.specs.Request.{request_of}
-use Rattle.tensor_runner.specs.Answer.{Answer, fault, line_of, fault_line, status_of}
+use Rattle.expr_reader.specs.Contents.{Contents}
+use Rattle.tensor_runner.specs.Answer.{Answer, fault, line_of, tensor_line, fault_line, status_of}
 use Rattle.tensor_runner.specs.Answer.{IsAnswerTo, numbers_text}
 use Rattle.tensor_runner.specs.Journal.{Says, HasSteps}
-use Rattle.tensor_runner.specs.Limited.{refusal, is_longer, line_read}
+use Rattle.tensor_runner.specs.Limited.{refusal, is_longer, line_read, IsStoppedLine}
 use Rattle.tensor_runner.specs.Run.{IsLeft}
 use Rattle.expr_reader.specs.declared.fault.Fault.{Fault}
 use Rattle.expr_reader.specs.declared.fault.Fault.TheVariants.{TooLong, NoMemory}
@@ -18,6 +19,7 @@ use Rattle.tensor_runner.specs.declared.answer.Line.{Line}
 use Rattle.tensor_runner.specs.declared.journal.AnyFault.TheVariants.{Request}
 use Rattle.tensor_runner.specs.declared.journal.Entry.{Entry}
 use Rattle.tensor_runner.specs.declared.limits.Limits.{Limits}
+use Rattle.tensor_runner.specs.declared.status.Status.TheVariants as status
 
 -- a number as JSON
 abbrev pub integer : ℤ → Data
@@ -44,6 +46,12 @@ pub record IsFaultLine (f : Fault) (line : Line) : Type 0 where
 abbrev pub IsRefusal : Fault → Line → Type 0
 IsRefusal f line = IsFaultLine f line ⊎ (IsFaultLine NoMemory line × (f ≢ TooLong))
 
+-- the line says this tensor, or it says `NoMemory`
+abbrev pub IsTensorLine : Contents → Line → Type 0
+IsTensorLine t line =
+    ((cow_slice_items line.bytes ≡ tensor_line t) × (line.fault ≡ None) × (line.status ≡ status.Tensor))
+    ⊎ (IsFaultLine NoMemory line × (line.status ≡ status.Fault))
+
 -- the journal's note on a text of `bytes` bytes that this line answers
 abbrev pub entry_of : ℕ → Line → Entry
 entry_of bytes line =
@@ -61,16 +69,20 @@ pub record IsLineFor (text : List ℕ) (line : Line) : Type 0 where
   pub written : cow_slice_items line.bytes ≡ line_of answer
   pub status : line.status ≡ status_of answer
 
--- the line that answers a text which may be so long, or the line of `NoMemory`
+-- the line that answers a text which may be so long, or the line of `NoMemory`, or the line of a
+-- text that takes too many seconds
 abbrev pub IsLineRead : Limits → List ℕ → List ℕ → Type 0
 IsLineRead limits text line =
-    (line ≡ line_read limits text) ⊎ ((line ≡ fault_line NoMemory) × (length text ≤ most_bytes))
+    (line ≡ line_read limits text)
+    ⊎ (((line ≡ fault_line NoMemory) × (length text ≤ most_bytes))
+    ⊎ IsStoppedLine limits text line)
 
 -- the line answers a text which may be so long, and its fault and steps are those of the answer. If
--- the request is over no limit, the line is one of an answer to the text.
+-- the request is over no limit and seconds are not limited, the line is one of an answer to the
+-- text.
 pub record IsLineUnder (limits : Limits) (text : List ℕ) (line : Line) : Type 0 where
   pub within : IsLineRead limits text (cow_slice_items line.bytes)
-  pub own : refusal limits (request_of text) ≡ None → IsLineFor text line
+  pub own : refusal limits (request_of text) ≡ None → limits.seconds ≡ None → IsLineFor text line
   pub says : Says (cow_slice_items line.bytes) line.fault
   pub has : HasSteps (request_of text) line.fault line.steps
 

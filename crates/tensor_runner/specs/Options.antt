@@ -44,6 +44,7 @@ option_in word = record {
 abbrev pub takes_number : List ℕ → Bool
 takes_number name = bytes_eq name (codes "--most-workers")
     || bytes_eq name (codes "--most-steps") || bytes_eq name (codes "--most-bytes")
+    || bytes_eq name (codes "--most-seconds")
 
 -- the options of some words; the word after the name of an option that takes a number is its value
 abbrev pub options_in : List (List ℕ) → List Written
@@ -80,11 +81,13 @@ setting_of name value =
     then result_map_both set.MostSteps (λ fault. fault) (number_in value)
     else (if bytes_eq name (codes "--most-bytes")
     then result_map_both set.MostBytes (λ fault. fault) (number_in value)
+    else (if bytes_eq name (codes "--most-seconds")
+    then result_map_both set.MostSeconds (λ fault. fault) (number_in value)
     else (if bytes_eq name (codes "--log") then without_value set.Log value
     else (if bytes_eq name (codes "--help") || bytes_eq name (codes "-h")
     then without_value set.Help value
     else (if bytes_eq name (codes "--version") then without_value set.Version value
-    else Err NoSuchOption)))))
+    else Err NoSuchOption))))))
 
 -- what an option asks for, or its refusal
 abbrev pub setting_in : Written → Result Setting Refusal
@@ -109,6 +112,8 @@ serving_with options (set.MostSteps n) = command.Serve
     (record options { limits = record options.limits { steps = Some n } })
 serving_with options (set.MostBytes n) = command.Serve
     (record options { limits = record options.limits { bytes = Some n } })
+serving_with options (set.MostSeconds n) = command.Serve
+    (record options { limits = record options.limits { seconds = Some n } })
 serving_with options set.Log = command.Serve (record options { log = true })
 serving_with options set.Help = command.Help
 serving_with options set.Version = command.Version

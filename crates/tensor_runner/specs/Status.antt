@@ -4,6 +4,7 @@ use Rattle.std.specs.Prelude.{ℕ, List, codes}
 use Rattle.tensor_runner.specs.declared.limits.LimitFault.{LimitFault}
 use Rattle.tensor_runner.specs.declared.limits.LimitFault.TheVariants.{TooManyWorkers}
 use Rattle.tensor_runner.specs.declared.limits.LimitFault.TheVariants.{TooManySteps}
+use Rattle.tensor_runner.specs.declared.limits.LimitFault.TheVariants.{TooManySeconds}
 use Rattle.tensor_runner.specs.declared.status.RunFault.{RunFault}
 use Rattle.tensor_runner.specs.declared.status.RunFault.TheVariants as run
 
@@ -16,8 +17,10 @@ run_fault_number run.NoMemory = 15
 abbrev pub limit_number : LimitFault → ℕ
 limit_number TooManyWorkers = 19
 limit_number TooManySteps = 20
+limit_number TooManySeconds = 21
 
 -- the name of a limit's fault
 abbrev pub limit_name : LimitFault → List ℕ
 limit_name TooManyWorkers = codes "TooManyWorkers"
 limit_name TooManySteps = codes "TooManySteps"
+limit_name TooManySeconds = codes "TooManySeconds"

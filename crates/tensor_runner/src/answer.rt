@@ -1,27 +1,28 @@
 //! The line that answers a text, built in memory before it is written. `run` and the servers of
 //! lines share it, so a change here touches all of them; specs/Line.antt says what a line has.
 
-ghost use Rattle.std.specs.Prelude.{◌≡◌, ℕ, List, Some, None, IfOk, MatchResult};
+ghost use Rattle.std.specs.Prelude.{◌≡◌, ℕ, List, Some, None, MatchResult};
 ghost use Rattle.std.specs.Cow.{cow_slice_items};
-ghost use Rattle.expr_reader.specs.Asked.{asked_under};
-ghost use Rattle.expr_reader.specs.Request.{asked_tensor};
-ghost use Rattle.tensor_runner.specs.Answer.{tensor_line, fault_line};
+ghost use Rattle.tensor_runner.specs.Answer.{fault_line};
 ghost use Rattle.tensor_runner.specs.private.Kept.{IsKept};
 ghost use Rattle.tensor_runner.specs.Limited.{limit_line};
 ghost use Rattle.tensor_runner.specs.Line.{entry_of, IsLineFrom, IsLineUnder, IsFaultOf, IsRefusal};
+ghost use Rattle.tensor_runner.specs.Line.{IsTensorLine};
 
-use crate::evaluation::eval;
+use crate::allowance::Allowance;
+use crate::evaluation::eval_until;
 use crate::journal::{AnyFault, Entry};
 use crate::kept::KeptText;
-use crate::limits::{LimitFault, Limits};
+use crate::limits::LimitFault;
 use crate::status::{RunFault, Status};
 use crate::text::push_tensor;
 use crate::work::{over_limits, steps_of};
-use expr_reader::{Fault, MAX_TEXT, Request, read_request};
+use expr_reader::{Fault, MAX_TEXT, Tensor, read_request};
 use std::alloc::Global;
 use std::borrow::CowSlice;
 use std::sync::Wait;
 use std::thread::Threads;
+use std::time::Clock;
 
 /// The line if an allocation fails. Like the other constant lines, it needs no allocation itself.
 const NO_MEMORY: &[u8] = b"error 15 NoMemory\n";
@@ -34,6 +35,9 @@ const TOO_MANY_WORKERS: &[u8] = b"error 19 TooManyWorkers\n";
 
 /// The line for a request that takes too many steps.
 const TOO_MANY_STEPS: &[u8] = b"error 20 TooManySteps\n";
+
+/// The line for a request that takes too many seconds.
+const TOO_MANY_SECONDS: &[u8] = b"error 21 TooManySeconds\n";
 
 /// The line that answers a text, and what it says.
 #[derive(Drop)]
@@ -60,49 +64,49 @@ pub(crate) fn entry_of(bytes: usize, line: &Line) -> Entry
     }
 }
 
-/// Returns the line that answers a text under limits, given what is kept of the text. A text that is
-/// longer than the limit of bytes isn't read.
-pub(crate) fn answer<RT: Threads + Wait + Sync>(
+/// Returns the line that answers a text, by what is allowed to it, given what is kept of the text. A
+/// text that is longer than the limit of bytes isn't read.
+pub(crate) fn answer<RT: Threads + Wait + Sync, K: Clock>(
     rt: &RT,
     alloc: Global,
-    limits: Limits,
+    allowance: &Allowance<'_, K>,
     kept: KeptText,
 ) -> Line
-    ensures { (text : List ℕ) → IsKept text kept → IsLineFrom limits text result }
+    ensures { (text : List ℕ) → IsKept text kept → IsLineFrom allowance.now.limits text result }
 {
-    if limits.is_too_long(kept.len() as u128) {
+    if allowance.limits.is_too_long(kept.len() as u128) {
         return too_long();
     }
-    answer_kept(rt, alloc, limits, kept)
+    answer_kept(rt, alloc, allowance, kept)
 }
 
-/// Returns the line that answers a text of no more bytes than the limits allow.
-fn answer_kept<RT: Threads + Wait + Sync>(
+/// Returns the line that answers a text of no more bytes than are allowed.
+fn answer_kept<RT: Threads + Wait + Sync, K: Clock>(
     rt: &RT,
     alloc: Global,
-    limits: Limits,
+    allowance: &Allowance<'_, K>,
     kept: KeptText,
 ) -> Line
-    ensures { (text : List ℕ) → IsKept text kept → IsLineUnder limits text result }
+    ensures { (text : List ℕ) → IsKept text kept → IsLineUnder allowance.now.limits text result }
 {
     match kept {
-        KeptText::Text(text) => answer_text(rt, alloc, limits, text),
+        KeptText::Text(text) => answer_text(rt, alloc, allowance, text),
         KeptText::Counted(count) if count > MAX_TEXT => too_long(),
         KeptText::Counted(_) => no_memory(None),
     }
 }
 
-/// Returns the line that answers a text under limits. The line of a tensor reuses the memory of the
-/// text.
-fn answer_text<RT: Threads + Wait + Sync>(
+/// Returns the line that answers a text, by what is allowed to it. The line of a tensor reuses the
+/// memory of the text.
+fn answer_text<RT: Threads + Wait + Sync, K: Clock>(
     rt: &RT,
     alloc: Global,
-    limits: Limits,
+    allowance: &Allowance<'_, K>,
     text: Vec<u8>,
 ) -> Line
-    ensures { IsLineUnder limits text.items result }
+    ensures { IsLineUnder allowance.now.limits text.items result }
 {
-    match line_of(rt, alloc, limits, text) {
+    match line_of(rt, alloc, allowance, text) {
         Ok(line) => line,
         Err(fault) => refusal(alloc, fault),
     }
@@ -111,22 +115,23 @@ fn answer_text<RT: Threads + Wait + Sync>(
 /// Returns the line of the text's tensor, or the line of the limit that its request is over, or the
 /// line `error 15 NoMemory` if the evaluation runs out of memory. A fault of the text is returned
 /// as an error.
-fn line_of<RT: Threads + Wait + Sync>(
+fn line_of<RT: Threads + Wait + Sync, K: Clock>(
     rt: &RT,
     alloc: Global,
-    limits: Limits,
+    allowance: &Allowance<'_, K>,
     text: Vec<u8>,
 ) -> Result<Line, Fault>
-    ensures { MatchResult result (IsLineUnder limits text.items) (IsFaultOf text.items) }
+    ensures { MatchResult result (IsLineUnder allowance.now.limits text.items) (IsFaultOf text.items) }
 {
     match read_request(alloc, text.as_slice()) {
         Ok(request) => {
             let steps = steps_of(&request);
-            match over_limits(limits, &request, steps) {
+            match over_limits(allowance.limits, &request, steps) {
                 Some(fault) => Ok(limit_line(fault, steps)),
-                None => match tensor_text(rt, alloc, &request, text) {
-                    Ok(line) => Ok(tensor_line(line, steps)),
-                    Err(_) => Ok(no_memory(Some(steps))),
+                None => match eval_until(rt, alloc, &request, &allowance.deadline) {
+                    Ok(Some(tensor)) => Ok(tensor_line(alloc, &tensor, text, steps)),
+                    Ok(None) => Ok(too_many_seconds(steps)),
+                    Err(RunFault::NoMemory) => Ok(no_memory(Some(steps))),
                 },
             }
         }
@@ -143,6 +148,7 @@ fn limit_line(fault: LimitFault, steps: u128) -> Line
     match fault {
         LimitFault::TooManyWorkers => too_many_workers(steps),
         LimitFault::TooManySteps => too_many_steps(steps),
+        LimitFault::TooManySeconds => too_many_seconds(steps),
     }
 }
 
@@ -170,6 +176,20 @@ fn too_many_steps(steps: u128) -> Line
         bytes: CowSlice::Borrowed(TOO_MANY_STEPS),
         status: Status::Fault,
         fault: Some(AnyFault::Limit(LimitFault::TooManySteps)),
+        steps: Some(steps),
+    }
+}
+
+/// Returns the line for a request of `steps` steps that takes too many seconds.
+fn too_many_seconds(steps: u128) -> Line
+    ensures bytes { cow_slice_items result.bytes ≡ limit_line LimitFault.TooManySeconds }
+    ensures fault { result.fault ≡ Some (AnyFault.Limit LimitFault.TooManySeconds) }
+    ensures steps { result.steps ≡ Some steps }
+{
+    Line {
+        bytes: CowSlice::Borrowed(TOO_MANY_SECONDS),
+        status: Status::Fault,
+        fault: Some(AnyFault::Limit(LimitFault::TooManySeconds)),
         steps: Some(steps),
     }
 }
@@ -205,38 +225,22 @@ fn too_long() -> Line
     }
 }
 
-/// Returns the line of a tensor, given its bytes and the steps of its request.
-fn tensor_line(bytes: Vec<u8>, steps: u128) -> Line
-    ensures bytes { cow_slice_items result.bytes ≡ bytes.items }
-    ensures status { result.status ≡ Status.Tensor }
-    ensures fault { result.fault ≡ None }
+/// Returns the line of a tensor of a request of `steps` steps, or the line `error 15 NoMemory`. It
+/// reuses the memory of the request's text, which isn't needed any more.
+fn tensor_line(alloc: Global, tensor: &Tensor, text: Vec<u8>, steps: u128) -> Line
+    ensures line { IsTensorLine tensor.now result }
     ensures steps { result.steps ≡ Some steps }
 {
-    Line {
-        bytes: CowSlice::Owned(bytes),
-        status: Status::Tensor,
-        fault: None,
-        steps: Some(steps),
-    }
-}
-
-/// Evaluates a request and returns the bytes of its tensor's line. They reuse the memory of the
-/// text, which isn't needed any more.
-fn tensor_text<RT: Threads + Wait + Sync>(
-    rt: &RT,
-    alloc: Global,
-    request: &Request<'_>,
-    text: Vec<u8>,
-) -> Result<Vec<u8>, RunFault>
-    ensures { IfOk result (λ line.
-        line.items ≡ tensor_line (asked_tensor (asked_under request.now))) }
-{
-    let tensor = eval(rt, alloc, request)?;
     let mut line = text;
     line.clear();
-    match push_tensor(alloc, &tensor, &mut line) {
-        Ok(()) => Ok(line),
-        Err(_) => Err(RunFault::NoMemory),
+    match push_tensor(alloc, tensor, &mut line) {
+        Ok(()) => Line {
+            bytes: CowSlice::Owned(line),
+            status: Status::Tensor,
+            fault: None,
+            steps: Some(steps),
+        },
+        Err(_) => no_memory(Some(steps)),
     }
 }
 

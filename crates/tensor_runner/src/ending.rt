@@ -18,6 +18,7 @@ use message_server::{Client, Ending, Sink, Source, StreamFault, ending_of};
 use std::alloc::Global;
 use std::sync::Wait;
 use std::thread::Threads;
+use std::time::Clock;
 
 /// Answers the text of a stream on another stream, as [`run`] does, and returns what the program
 /// ends with: status 0 for a tensor and 1 for a fault, or the ending for a stream fault.
@@ -50,12 +51,14 @@ pub fn serve<RT: Threads + Wait + Sync, R: Source, W: Sink>(
 }
 
 /// Answers the lines of a client, as [`answer_lines`] does, and returns what the program ends with.
-pub fn serve_lines<RT: Threads + Wait + Sync, C: Client, J: Journal + Drop>(
+pub fn serve_lines<RT, C: Client, J: Journal + Drop, K: Clock + Drop>(
     rt: &RT,
     alloc: Global,
-    service: Service<J>,
+    service: Service<J, K>,
     client: &mut C,
 ) -> Ending
+where
+    RT: Threads + Wait + Sync,
     requires by_lines { GoesByLinesWithin service.limits C.owes_nothing }
     requires new { IfSome (C.history client.old) IsNew }
     // All lines were answered, or a read failed, or a write.

@@ -6,6 +6,7 @@ ghost use Rattle.tensor_runner.specs.Line.{IsLineOfRead};
 ghost use Rattle.tensor_runner.specs.Run.{most_reads, TakesAtMost, Answers, CutsShort};
 ghost use Rattle.message_server.specs.Streams.{HasFailed};
 
+use crate::allowance::Allowance;
 use crate::answer::{Line, answer};
 use crate::limits::Limits;
 use crate::reading::read_text;
@@ -15,6 +16,7 @@ use message_server::{Sink, Source, StreamFault};
 use std::alloc::Global;
 use std::sync::Wait;
 use std::thread::Threads;
+use tensor_reduce::NoClock;
 
 /// The most bytes of a text that are read. It is one more than a text may have, so a text with this
 /// many bytes is too long.
@@ -73,5 +75,7 @@ fn prepare<RT: Threads + Wait + Sync, R: Source>(
     ensures calls { R.calls reader.new ≤ R.calls reader.old + most_reads }
 {
     let kept = read_text(alloc, reader)?;
-    Ok(answer(rt, alloc, Limits::none(), kept))
+    let clock = NoClock;
+    let allowance = Allowance::begin(Limits::none(), &clock);
+    Ok(answer(rt, alloc, &allowance, kept))
 }

@@ -1,7 +1,8 @@
 //! Evaluates a request to its tensor, for lines and for frames. A change here touches `answer.rt`,
 //! frame_server, and the starts of threads that tests/test_starts.py counts.
 
-ghost use Rattle.std.specs.Prelude.{◌≡◌, ◌+◌, ◌^◌, ◌<◌, length, IfOk, IsOk, IsTrue};
+ghost use Rattle.std.specs.Prelude.{◌≡◌, ◌+◌, ◌^◌, ◌<◌, length, Ok, None, IfOk, IsOk, IfSome, IsSome};
+ghost use Rattle.std.specs.Prelude.{IsTrue};
 ghost use Rattle.expr_reader.specs.Asked.{asked_under};
 ghost use Rattle.expr_reader.specs.Request.{asked_tensor};
 ghost use Rattle.expr_reader.specs.Result.{dims_of};
@@ -15,7 +16,8 @@ use expr_reader::{Expr, Inputs, Request, Tensor};
 use std::alloc::{AllocError, Global};
 use std::sync::Wait;
 use std::thread::Threads;
-use tensor_reduce::{ForFault, Plan, Setup, run_plan};
+use std::time::Clock;
+use tensor_reduce::{Deadline, ForFault, NoClock, Plan, PlanRun, Setup, run_plan_until};
 
 impl From<AllocError> for RunFault {
     ghost use Rattle.std.specs.Prelude.{◌≡◌};
@@ -30,34 +32,37 @@ impl From<AllocError> for RunFault {
 
 /// What is needed to evaluate the expressions of a request.
 #[derive(Drop)]
-struct Evaluation<'a, 'i, RT> {
+struct Evaluation<'a, 'i, 'k, RT, K: Clock> {
     rt: &'a RT,
     alloc: Global,
     request: &'a Request<'i>,
+    deadline: &'a Deadline<'k, K>,
 }
 
-impl<RT: Threads + Wait + Sync> Evaluation<'_, '_, RT> {
+impl<RT: Threads + Wait + Sync, K: Clock> Evaluation<'_, '_, '_, RT, K> {
     /// Evaluates an expression over these tensors, by the workers and the block of the request.
-    fn tensor(&self, expr: &Expr, tensors: &Inputs<'_>) -> Result<Tensor<'static>, RunFault>
+    /// Returns `None` if the deadline passes first.
+    fn tensor(&self, expr: &Expr, tensors: &Inputs<'_>) -> Result<Option<Tensor<'static>>, RunFault>
         requires inputs { IsTrue (has_inputs (term_of expr.now) (length tensors.now.tensors)) }
         requires dims { IsOk (dims_of tensors.now.bounds (term_of expr.now) tensors.now.tensors) }
         requires few { length tensors.now.tensors + nodes_of (term_of expr.now) < 2 ^ 32 }
-        ensures { IfOk result (λ t. t ≡ tensor_of (term_of expr.now) tensors.now.tensors) }
+        ensures tensor { IfOk result (λ found. IfSome found (λ t.
+            t ≡ tensor_of (term_of expr.now) tensors.now.tensors)) }
+        ensures stopped { result ≡ Ok None → IsSome self.now.deadline.now.seconds }
     {
         let plan = Plan::of(self.alloc, expr, tensors)?;
         let setup = Setup {
             workers: self.request.workers,
             partitions: Vec::new(self.alloc),
         };
-        match run_plan(
-            self.rt,
-            self.alloc,
-            &setup,
-            self.request.block,
-            &plan,
-            tensors,
-        ) {
-            Ok(tensor) => Ok(tensor),
+        let run = PlanRun {
+            setup: &setup,
+            block: self.request.block,
+            plan: &plan,
+            inputs: tensors,
+        };
+        match run_plan_until(self.rt, self.alloc, &run, self.deadline) {
+            Ok(found) => Ok(found),
             Err(ForFault::NoMemory) => Err(RunFault::NoMemory),
             Err(ForFault::BadBlock | ForFault::Pool(_)) => unreachable!(),
         }
@@ -78,7 +83,37 @@ pub fn eval<RT: Threads + Wait + Sync>(
 ) -> Result<Tensor<'static>, RunFault>
     ensures tensor { IfOk result (λ t. t ≡ asked_tensor (asked_under request.now)) }
 {
-    let evaluation = Evaluation { rt, alloc, request };
+    let clock = NoClock;
+    let never = Deadline::after(&clock, None);
+    match eval_until(rt, alloc, request, &never)? {
+        Some(tensor) => Ok(tensor),
+        None => unreachable!(),
+    }
+}
+
+/// Evaluates a request as [`eval`] does, and returns `None` if the deadline passes before the last
+/// part of the work begins. The clock is read by the calling thread, between parts that take as long
+/// as a reduction, a contraction, or an operation at each place of a tensor.
+///
+/// # Errors
+///
+/// [`RunFault::NoMemory`] if an allocation fails.
+pub fn eval_until<RT: Threads + Wait + Sync, K: Clock>(
+    rt: &RT,
+    alloc: Global,
+    request: &Request,
+    deadline: &Deadline<'_, K>,
+) -> Result<Option<Tensor<'static>>, RunFault>
+    ensures tensor { IfOk result (λ found. IfSome found (λ t.
+        t ≡ asked_tensor (asked_under request.now))) }
+    ensures stopped { result ≡ Ok None → IsSome deadline.now.seconds }
+{
+    let evaluation = Evaluation {
+        rt,
+        alloc,
+        request,
+        deadline,
+    };
     if request.bindings.is_empty() {
         return evaluation.tensor(&request.expr, &request.inputs);
     }
@@ -86,7 +121,10 @@ pub fn eval<RT: Threads + Wait + Sync>(
     let _limit = request.inputs.bounds();
     let mut tensors = request.inputs.lent(alloc)?.widened();
     for (done, binding) in request.bindings.iter().enumerate() {
-        let tensor = evaluation.tensor(&binding.expr, &tensors)?;
+        let found = evaluation.tensor(&binding.expr, &tensors)?;
+        let Some(tensor) = found else {
+            return Ok(None);
+        };
         tensors.push(tensor)?;
         free_unread(request, done, &mut tensors);
     }

@@ -1,4 +1,4 @@
-//! The limits of a server, and the faults 19 and 20 for requests that are over them. A change here
+//! The limits of a server, and the faults 19 to 21 for requests that are over them. A change here
 //! touches `over_limits`, the constant lines of `answer.rt`, the options, frame_server, and
 //! docs/SERVE.md.
 
@@ -16,6 +16,9 @@ pub struct Limits {
     pub steps: Option<u64>,
     /// The most bytes that a line, without its line feed, or a frame may have.
     pub bytes: Option<u64>,
+    /// The seconds after which a request is evaluated no further, from the moment at which it was
+    /// wholly read. For 0 no request is evaluated.
+    pub seconds: Option<u64>,
 }
 
 /// The limit that a request is over.
@@ -27,6 +30,9 @@ pub enum LimitFault {
     /// The request takes more steps.
     #[error("the request takes more steps than are allowed here")]
     TooManySteps = 20,
+    /// The evaluation of the request takes more seconds.
+    #[error("the request takes more seconds than are allowed here")]
+    TooManySeconds = 21,
 }
 
 impl Limits {
@@ -40,6 +46,7 @@ impl Limits {
             workers: None,
             steps: None,
             bytes: None,
+            seconds: None,
         }
     }
 
@@ -54,7 +61,7 @@ impl Limits {
 impl LimitFault {
     ghost use Rattle.tensor_runner.specs.Status.{limit_number, limit_name};
 
-    /// Returns the number of the fault, 19 or 20.
+    /// Returns the number of the fault, 19 to 21.
     pub fn number(self) -> u32
         ensures { result ≡ limit_number self }
     {
@@ -68,6 +75,7 @@ impl LimitFault {
         match self {
             LimitFault::TooManyWorkers => "TooManyWorkers",
             LimitFault::TooManySteps => "TooManySteps",
+            LimitFault::TooManySeconds => "TooManySeconds",
         }
     }
 }

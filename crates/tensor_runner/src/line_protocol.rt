@@ -9,6 +9,7 @@ ghost use Rattle.tensor_runner.specs.private.Kept.{IsKept};
 ghost use Rattle.tensor_runner.specs.private.Laws.{laws};
 ghost use Rattle.tensor_runner.specs.private.Parting.{by_feeds};
 
+use crate::allowance::Allowance;
 use crate::answer::{Line, answer, entry_of};
 use crate::journal::{Entry, Journal};
 use crate::kept::{KeptText, Room};
@@ -19,12 +20,13 @@ use message_server::{Client, InputBuffer, Next, Protocol, StreamFault, write_ans
 use std::alloc::Global;
 use std::sync::Wait;
 use std::thread::Threads;
+use std::time::Clock;
 
 /// The protocol of lines, answered as a service says.
 #[derive(Drop)]
-pub(crate) struct LineProtocol<J: Journal + Drop> {
+pub(crate) struct LineProtocol<J: Journal + Drop, K: Clock + Drop> {
     pub(crate) alloc: Global,
-    pub(crate) service: Service<J>,
+    pub(crate) service: Service<J, K>,
 }
 
 /// The line that answers a request, and the note that the journal gets once the line is written.
@@ -34,7 +36,8 @@ pub(crate) struct NotedLine {
     entry: Entry,
 }
 
-impl<RT: Threads + Wait + Sync, J: Journal + Drop> Protocol<RT> for LineProtocol<J> {
+impl<RT: Threads + Wait + Sync, J: Journal + Drop, K: Clock + Drop> Protocol<RT>
+    for LineProtocol<J, K> {
     type Rules = Limits;
 
     type Message = KeptText;
@@ -70,7 +73,8 @@ impl<RT: Threads + Wait + Sync, J: Journal + Drop> Protocol<RT> for LineProtocol
     fn answer(&mut self, rt: &RT, kept: KeptText) -> NotedLine {
         self.service.journal.begin();
         let length = kept.len();
-        let line = answer(rt, self.alloc, self.service.limits, kept);
+        let allowance = Allowance::begin(self.service.limits, &self.service.clock);
+        let line = answer(rt, self.alloc, &allowance, kept);
         let entry = entry_of(length, &line);
         NotedLine { line, entry }
     }

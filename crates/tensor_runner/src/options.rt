@@ -1,5 +1,5 @@
-//! Reads the options of tensor_lines and tensor_frames. A new option touches specs/Options.antt,
-//! both mains with their usage lines, docs/SERVE.md and the man pages.
+//! Reads the options of tensor_lines and tensor_frames. A new option touches specs/Options.antt, the
+//! usage line in `program.rt`, docs/SERVE.md and the man pages.
 
 ghost use Rattle.std.specs.Prelude.{◌≡◌, ◌<◌, ◌≤◌, ◌∷◌, map, length, drop, Ok, Err, IfOk, IfErr};
 ghost use Rattle.std.specs.Prelude.{option_copied, string_bytes};
@@ -69,6 +69,8 @@ enum Setting {
     MostSteps(u64),
     /// `--most-bytes`, with its value.
     MostBytes(u64),
+    /// `--most-seconds`, with its value.
+    MostSeconds(u64),
     /// `--log`.
     Log,
     /// `--help` or `-h`.
@@ -153,7 +155,10 @@ fn first_option<'a>(words: &'a [String]) -> FirstOption<'a>
 fn takes_number(name: &str) -> bool
     ensures { result ≡ takes_number name.now }
 {
-    name == "--most-workers" || name == "--most-steps" || name == "--most-bytes"
+    name == "--most-workers"
+        || name == "--most-steps"
+        || name == "--most-bytes"
+        || name == "--most-seconds"
 }
 
 /// Splits a word `name` or `name=value` into the name and the value of its option.
@@ -175,6 +180,7 @@ fn setting_of(name: &str, value: Option<&str>) -> Result<Setting, OptionFault>
         "--most-workers" => Ok(Setting::MostWorkers(number_in(value)?)),
         "--most-steps" => Ok(Setting::MostSteps(number_in(value)?)),
         "--most-bytes" => Ok(Setting::MostBytes(number_in(value)?)),
+        "--most-seconds" => Ok(Setting::MostSeconds(number_in(value)?)),
         "--log" => without_value(Setting::Log, value),
         "--help" | "-h" => without_value(Setting::Help, value),
         "--version" => without_value(Setting::Version, value),
@@ -239,6 +245,13 @@ fn serving_with(options: ServeOptions, setting: Setting) -> Command
         Setting::MostBytes(most) => Command::Serve(ServeOptions {
             limits: Limits {
                 bytes: Some(most),
+                ..limits
+            },
+            ..options
+        }),
+        Setting::MostSeconds(most) => Command::Serve(ServeOptions {
+            limits: Limits {
+                seconds: Some(most),
                 ..limits
             },
             ..options

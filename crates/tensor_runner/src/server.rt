@@ -15,12 +15,13 @@ use message_server::{Client, StreamFault, answer_messages};
 use std::alloc::Global;
 use std::sync::Wait;
 use std::thread::Threads;
+use std::time::Clock;
 
 /// Answers each line of a client, in order, until the client's bytes end, by what
 /// [`run`](crate::run) writes for this line alone. A request that is over a limit of the service is
-/// not evaluated, and is answered by the line of this limit. Each answer is written before more is
-/// read, and is noted in the service's journal: `begin` once the line is read, `end` once its answer
-/// is written.
+/// not evaluated, and is answered by the line of this limit; a request that takes more seconds than
+/// the service allows is evaluated no further. Each answer is written before more is read, and is
+/// noted in the service's journal: `begin` once the line is read, `end` once its answer is written.
 ///
 /// A line feed ends a line. The last line may lack it, and is answered unless it is empty. The rest
 /// of a line that is too long is skipped. If an allocation fails, only the line that needed it is
@@ -30,12 +31,14 @@ use std::thread::Threads;
 ///
 /// [`StreamFault::ReadFault`] if a read fails, [`StreamFault::WriteFault`] if a write fails or
 /// takes no byte.
-pub fn answer_lines<RT: Threads + Wait + Sync, C: Client, J: Journal + Drop>(
+pub fn answer_lines<RT, C: Client, J: Journal + Drop, K: Clock + Drop>(
     rt: &RT,
     alloc: Global,
-    service: Service<J>,
+    service: Service<J, K>,
     client: &mut C,
 ) -> Result<(), StreamFault>
+where
+    RT: Threads + Wait + Sync,
     requires by_lines { GoesByLinesWithin service.limits C.owes_nothing }
     requires new { IfSome (C.history client.old) IsNew }
 

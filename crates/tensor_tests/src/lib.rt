@@ -10,6 +10,8 @@ mod bindings;
 #[cfg(test)]
 mod copies;
 #[cfg(test)]
+mod deadlines;
+#[cfg(test)]
 mod dims;
 #[cfg(test)]
 mod faults;

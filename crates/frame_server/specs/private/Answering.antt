@@ -1,6 +1,6 @@
 -- The frame of an answer before it is written, for the private clauses of the server.
 use Rattle.std.specs.Prelude.{◌≡◌, ◌≢◌, ◌⊎◌, ℕ, ℤ, List, [], ◌++◌, length, Option, Some, None}
-use Rattle.std.specs.Prelude.{◌+◌, ◌/◌, MatchBool}
+use Rattle.std.specs.Prelude.{◌+◌, ◌/◌, MatchBool, IsSome}
 use Rattle.std.specs.Cow.{cow_slice_items}
 use Rattle.std.specs.List.{flat_map}
 use Rattle.expr_reader.specs.Contents.{Contents}
@@ -13,10 +13,12 @@ use Rattle.tensor_runner.specs.declared.journal.AnyFault.{AnyFault}
 use Rattle.tensor_runner.specs.declared.journal.AnyFault.TheVariants.{Request, Limit}
 use Rattle.tensor_runner.specs.declared.journal.Entry.{Entry}
 use Rattle.tensor_runner.specs.declared.limits.LimitFault.{LimitFault}
+use Rattle.tensor_runner.specs.declared.limits.LimitFault.TheVariants.{TooManySeconds}
 use Rattle.tensor_runner.specs.declared.limits.Limits.{Limits}
 use Rattle.frame_server.specs.Answer.{answer_bytes, IsAnswerTo, IsShort}
 use Rattle.frame_server.specs.Frame.{number_bytes, value_bytes, frame_in, header_len, value_count}
 use Rattle.frame_server.specs.Limited.{limit_frame, request_in, is_longer, frame_read}
+use Rattle.frame_server.specs.Limited.{IsStoppedFrame}
 use Rattle.frame_server.specs.declared.frame.AnswerFrame.{AnswerFrame}
 
 -- the bytes of a frame before its values: the two sizes and the header
@@ -58,11 +60,13 @@ abbrev pub Says : List ℕ → Option AnyFault → Type 0
 Says bytes (Some f) = bytes ≡ any_frame f
 Says bytes None = (t : Contents) × (bytes ≡ answer_bytes (tensor t))
 
--- the frame that answers the frame of these bytes, which may be so long, or the frame of `NoMemory`
+-- the frame that answers the frame of these bytes, which may be so long, or the frame of `NoMemory`,
+-- or the frame of one that takes too many seconds
 abbrev pub IsFrameRead : Limits → List ℕ → List ℕ → Type 0
 IsFrameRead limits bytes answer =
     (answer ≡ frame_read limits bytes)
-    ⊎ ((answer ≡ answer_bytes (fault NoMemory)) × IsShort (header_len bytes) (value_count bytes))
+    ⊎ (((answer ≡ answer_bytes (fault NoMemory)) × IsShort (header_len bytes) (value_count bytes))
+    ⊎ IsStoppedFrame limits bytes answer)
 
 -- the frame answers the frame of these bytes, which may be so long, and its fault and steps are
 -- those of the answer
@@ -90,12 +94,16 @@ IsTensorFrame t frame =
     ((bytes_in frame ≡ answer_bytes (tensor t)) × (frame.fault ≡ None))
     ⊎ IsFaultFrame NoMemory frame
 
+-- the frame says this fault of a limit
+abbrev pub IsLimitFrame : LimitFault → AnswerFrame → Type 0
+IsLimitFrame f frame = (bytes_in frame ≡ limit_frame f) × (frame.fault ≡ Some (Limit f))
+
 -- the frame of the limit that a request is over; without one, the frame of the tensor that it asks
--- for, or of `NoMemory`
-abbrev pub IsOwnFrame : Option LimitFault → Asked → AnswerFrame → Type 0
-IsOwnFrame None a frame = IsTensorFrame (asked_tensor a) frame
-IsOwnFrame (Some f) a frame =
-    (bytes_in frame ≡ limit_frame f) × (frame.fault ≡ Some (Limit f))
+-- for, or of `NoMemory`, or, where seconds are limited, of `TooManySeconds`
+abbrev pub IsOwnFrame : Option LimitFault → Option ℕ → Asked → AnswerFrame → Type 0
+IsOwnFrame None seconds a frame =
+    IsTensorFrame (asked_tensor a) frame ⊎ (IsLimitFrame TooManySeconds frame × IsSome seconds)
+IsOwnFrame (Some f) seconds a frame = IsLimitFrame f frame
 
 -- the frame says that a frame is longer than the limit of bytes, and has no steps
 pub record SaysTooLong (frame : AnswerFrame) : Type 0 where

@@ -7,13 +7,13 @@ use Rattle.tensor_runner.proofs.answer.answer.Goals as goal
 pub returns-then-is_too_long : goal.returns-then-is_too_long
 returns-then-is_too_long g c = λ text is.
     let counted = c.len.ensures ∙ kept-len text c.args.kept is in
-    let long : is_longer c.args.limits text ≡ true =
-    ap (λ (n : ℕ). is_over c.args.limits.bytes n) (sym counted) ∙ sym c.is_too_long.ensures ∙ c.if-is_too_long.true in
-    IsLineFrom-long c.args.limits text c.too_long.result long c.too_long.ensures.bytes c.too_long.ensures.fault c.too_long.ensures.steps
+    let long : is_longer c.args.allowance.now.limits text ≡ true =
+    ap (λ (n : ℕ). is_over c.args.allowance.now.limits.bytes n) (sym counted) ∙ sym c.is_too_long.ensures ∙ c.if-is_too_long.true in
+    IsLineFrom-long c.args.allowance.now.limits text c.too_long.result long c.too_long.ensures.bytes c.too_long.ensures.fault c.too_long.ensures.steps
 
 pub returns : goal.returns
 returns g c = λ text is.
     let counted = c.len.ensures ∙ kept-len text c.args.kept is in
-    let short : is_longer c.args.limits text ≡ false =
-    ap (λ (n : ℕ). is_over c.args.limits.bytes n) (sym counted) ∙ sym c.is_too_long.ensures ∙ c.if-is_too_long.false in
-    IsLineFrom-read c.args.limits text c.answer_kept.result short (c.answer_kept.ensures text is)
+    let short : is_longer c.args.allowance.now.limits text ≡ false =
+    ap (λ (n : ℕ). is_over c.args.allowance.now.limits.bytes n) (sym counted) ∙ sym c.is_too_long.ensures ∙ c.if-is_too_long.false in
+    IsLineFrom-read c.args.allowance.now.limits text c.answer_kept.result short (c.answer_kept.ensures text is)

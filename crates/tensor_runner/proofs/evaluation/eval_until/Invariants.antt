@@ -7,7 +7,7 @@ use Rattle.expr_reader.specs.Sequence.{worked_out}
 use Rattle.expr_reader.specs.Tree.{term_of}
 use Rattle.tensor_runner.specs.private.Held.{AreHeldFor}
 use Rattle.tensor_runner.specs.private.Left.{AreLeft}
-use Rattle.tensor_runner.proofs.evaluation.eval.Given as goal
+use Rattle.tensor_runner.proofs.evaluation.eval_until.Given as goal
 
 abbrev pub invariant-loop-done : goal.invariant-loop-done
 invariant-loop-done g l = record {

@@ -1,4 +1,4 @@
-use Rattle.std.proofs.Common.{◌≡◌, ◌+◌, ◌<◌, ◌≤◌, List, [], ◌∷◌, ◌++◌, length, drop, get_or, Ok, IsOk, is_ok, IfOk}
+use Rattle.std.proofs.Common.{◌≡◌, ◌+◌, ◌<◌, ◌≤◌, List, [], ◌∷◌, ◌++◌, length, drop, get_or, Ok, IsOk, is_ok, IfOk, IfSome}
 use Rattle.std.proofs.Common.{ap, sym, subst, ◌∙◌, arith}
 use Rattle.std.proofs.lemmas.List.{length-map, drop_all}
 use Rattle.expr_reader.specs.Bindings.{terms_under, term_under}
@@ -13,7 +13,7 @@ use Rattle.expr_reader.proofs.Bound.{length-worked_out}
 use Rattle.tensor_runner.specs.private.Held.{AreHeldFor}
 use Rattle.tensor_runner.proofs.Held.{AreHeldFor-all, AreHeldFor-first, AreHeldFor-next, dims-held, tensor-held, dims-last, tensor-last}
 use Rattle.tensor_runner.proofs.Left.{some-nodes, dims-wider, AreLeft-start, AreLeft-first, AreLeft-next, AreLeft-end}
-use Rattle.tensor_runner.proofs.evaluation.eval.Goals as goal
+use Rattle.tensor_runner.proofs.evaluation.eval_until.Goals as goal
 
 pub loop-done-init : goal.loop-done-init
 loop-done-init g c =
@@ -61,9 +61,10 @@ loop-done-preserved g c =
     let is : b ≡ get_or bs k b = c.binding-item.is ∙ ap (λ l. get_or l k b) inv.all in
     let first = AreLeft-first bs k inv.held.1 more is in
     let here = AreHeldFor-first bs k inv.held.2 more is in
+    let found = rw c.in-Some.is at c.in_ok-found.ensures.tensor in
     let pushed : c.push.new.self.tensors ≡ held ++ made ∷ [] =
     c.in_ok-push.ensures.ok
-    ∙ ap (λ t. held ++ t ∷ []) (c.in_ok-tensor.ensures ∙ tensor-held here first c.bounds-limit.ensures.limit) in
+    ∙ ap (λ t. held ++ t ∷ []) (found ∙ tensor-held here first c.bounds-limit.ensures.limit) in
     record {
       all = inv.all;
       held = (
@@ -103,8 +104,8 @@ tensor-requires-2-clause-dims g c κs within =
     subst (λ x. IsOk (dims_of x (term_of r.expr) c.loop-done.tensors.tensors)) (sym inv.bounds)
     (ap is_ok (dims-last inv.held.2 none (ap is_ok has) ∙ has))
 
-pub returns : goal.returns
-returns g c =
+pub returns-clause-tensor : goal.returns-clause-tensor
+returns-clause-tensor g c =
     let r = c.args.request.now in
     let bs = r.bindings.items in
     let inv = c.loop-done.invariant in
@@ -115,8 +116,6 @@ returns g c =
     ap (dims_of widest (term_of r.expr)) whole
     ∙ dims-wider r.inputs.bounds (term_of r.expr) (worked_out (terms_under bs) r.inputs.tensors) r.dims
     c.bounds-limit.ensures.limit r.has_dims in
-    record {
-      tensor = subst (λ x. IfOk c.tensor-2.result (λ t. t ≡ x))
-          (tensor-last inv.held.2 none (ap is_ok has) ∙ ap (tensor_of (term_of r.expr)) whole)
-          c.tensor-2.ensures;
-    }
+    subst (λ x. IfOk c.tensor-2.result (λ found. IfSome found (λ t. t ≡ x)))
+    (tensor-last inv.held.2 none (ap is_ok has) ∙ ap (tensor_of (term_of r.expr)) whole)
+    c.tensor-2.ensures.tensor
