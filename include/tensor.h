@@ -26,6 +26,8 @@
    - The processor has all instructions of x86-64-v2, or of x86-64-v3 if the library was built for it.
      The library does not check this.
    - malloc, realloc and free of the program belong to one allocator, as in the C library.
+   - The calling thread has TENSOR_STACK bytes of stack left. The library does not check this. No proof
+     says how much stack a call takes: tests measure it.
 
    The library itself does not take null pointers; the inline functions at the end of this file replace
    them. A caller from another language, or by the address of a function, must pass a valid address for
@@ -45,8 +47,9 @@
 extern "C" {
 #endif
 
-/* The version of the library, as the file VERSION has it. */
+/* The version of the library, as the file VERSION has it; and as one number, 3002001 for 3.2.1. */
 #define TENSOR_VERSION "3.0.0"
+#define TENSOR_VERSION_NUMBER 3000000
 
 /* The most values of a tensor of version 3, and so of an answer. In versions 1 and 2 a tensor has at
    most 1,048,576 values. */
@@ -60,6 +63,10 @@ extern "C" {
 
 /* The most numbers of a plan over `tensors` tensors. */
 #define TENSOR_PLAN_ROOM(tensors) (190004 + 9 * (size_t)(tensors))
+
+/* How many bytes of stack are enough for any call. The deepest request takes half of them, and `add` of
+   two tensors less than a tenth. */
+#define TENSOR_STACK 1048576
 
 /* Returned if `out`, `dims`, `name` or `plan` is too short. */
 #define TENSOR_NO_ROOM (-100)
@@ -140,7 +147,9 @@ int64_t tensor_shared(const uint8_t *header, size_t header_length,
    A plan is a header that is read and checked: the dims of the tensors and the expressions, as numbers
    in the caller's memory. It is not a handle, owns nothing, and need not be freed. It may be copied.
    Any number of threads may run one plan as long as no thread writes it. A plan is valid for this
-   version of the library and this kind of machine. */
+   version of the library (tensor_version) and this kind of machine.
+
+   While it runs, tensor_prepare allocates as much memory as `count` values take. */
 int64_t tensor_prepare(const uint8_t *header, size_t header_length, uint64_t count,
                        uint64_t *plan, size_t plan_length);
 
@@ -174,6 +183,10 @@ int64_t tensor_dims_of_arrays(const uint8_t *header, size_t header_length,
    cases it writes nothing. */
 int64_t tensor_fault_name(uint32_t number, uint8_t *name, size_t name_length);
 
+/* Returns the version of the library as one number. It is TENSOR_VERSION_NUMBER if the library and this
+   header have one version. A program that stores plans stores this number with them. */
+int64_t tensor_version(void);
+
 /* A pool of threads, which evaluate parts of answers for their callers (include/tensor_pool.c). */
 struct tensor_pool;
 
@@ -186,8 +199,8 @@ struct tensor_pool;
    TENSOR_MOST_WORKERS are not started. Returns null if 64 pools are open. A call on a null pool is right.
 
    The library owns the pool, and the caller closes it. The threads have the stack size that pthread_create
-   gives, and run no signal handler. A thread without parts spins for some microseconds, and then
-   sleeps. */
+   gives (`ulimit -s`): it has to be TENSOR_STACK or more. They run no signal handler. A thread without
+   parts spins for some microseconds, and then sleeps. */
 struct tensor_pool *tensor_pool_open(size_t workers);
 
 /* Does what tensor_run does, in at most `parts` parts. The threads of the pool take some parts, and the

@@ -101,6 +101,16 @@ inline tensor_pool *pool(std::size_t parts)
 
 }  // namespace detail
 
+/* Throws if the library that runs has another version than this header. */
+inline void check_version()
+{
+    const std::int64_t found = tensor_version();
+    if (found != TENSOR_VERSION_NUMBER)
+        throw std::runtime_error("the library has version " + std::to_string(found / 1'000'000) + "."
+                                 + std::to_string(found / 1'000 % 1'000) + "."
+                                 + std::to_string(found % 1'000) + ", the header " TENSOR_VERSION);
+}
+
 /* The dimensions of the answer to a frame with `count` values. It computes no value of the answer. */
 inline std::vector<std::uint64_t> dims(std::string_view header, std::uint64_t count)
 {

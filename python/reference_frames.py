@@ -29,6 +29,9 @@ MOST, MOST_PLACES = 16_777_216, 10_000_000
 TOO_LONG, NO_ROOM = b"error 1 TooLong", -100
 # The first number of the reference's plans, and the address of its pool.
 PLAN, POOL = 67, 64
+# The version as one number: 3002001 for 3.2.1.
+with open(os.path.join(TOP, "VERSION"), encoding="ascii") as file:
+    VERSION = int("".join(it.zfill(3) for it in file.read().strip().split(".")))
 
 
 def numbers_of(data):
@@ -88,6 +91,7 @@ class Functions:
         self.tensor_prepare = dims(self.prepare)
         self.tensor_run = arrays(self.run)
         self.tensor_fault_name = name(self.fault_name)
+        self.tensor_version = ctypes.CFUNCTYPE(number)(lambda: VERSION)
         of_pool = ctypes.CFUNCTYPE(
             number, pointer, *[pointer, length] * 2, place, pointer, length, length
         )

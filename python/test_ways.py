@@ -2,6 +2,7 @@
 threads."""
 
 import contextlib
+import ctypes
 import os
 import pickle
 import tempfile
@@ -123,6 +124,15 @@ class Found(Shell):
                 self.assertIsNone(library_of())
                 with self.assertRaisesRegex(client.ProgramFailed, "TENSOR_LIBRARY.*/none"):
                     library_named(None)
+
+
+    def test_a_library_of_another_version(self):
+        functions, other = referring()[0], ctypes.CFUNCTYPE(ctypes.c_int64)(lambda: 2_010_003)
+        with unittest.mock.patch("ctypes.CDLL", return_value=functions):
+            for version, said in (other, "is version 2.10.3, and"), (None, "is older than"):
+                functions.tensor_version = version
+                with self.assertRaisesRegex(client.ProgramFailed, f"reference {said} this client"):
+                    Library("reference")
 
 
 class Failing(Shell):

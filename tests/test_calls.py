@@ -1,19 +1,21 @@
 """Tests of single calls of the library from Python: what each call returns, and what it writes.
 
 The calls ask for parts of an answer, hand over arrays joined and apart, prepare and run plans, have
-more values than a text may have, count the values that parts share, and have lists that are too
-short. A call that fails writes nothing. In a table a number in place of a text or of a list of
+more values than a text may have, count the values that parts share, have lists that are too short,
+and return the version. A call that fails writes nothing. In a table a number in place of a text or of a list of
 values stands for that many zeros. A new case is a row of its table.
 """
 
 import ctypes
 import mmap
+import os
 
 import pytest
 
 from calling import MOST, SENTINEL, WIDEST, Array, Library, arrays_of, blank, bytes_of, header
 from calling import values_of, written
 from framing import GREATEST, LEAST
+from hostile import TOP
 
 NO_ROOM, NO_PLAN, TOO_LONG, BAD_TENSOR, BAD_ARITY = -100, -101, -1, -7, -9
 # How many numbers the plan of an operation on two tensors has, as include/tensor.h says.
@@ -266,6 +268,12 @@ def test_dims_of_many_values(library, values, result):
 def test_one_value_too_many(library):
     out, dims = blank(1), blank(2, ctypes.c_uint64)
     assert library.call("evaluate", bytes_of(ADD), values_of(MOST + 1), out, dims) == TOO_LONG
+
+
+def test_version(library):
+    with open(os.path.join(TOP, "VERSION"), encoding="ascii") as file:
+        numbers = file.read().strip().split(".")
+    assert library.call("version") == int("".join(it.zfill(3) for it in numbers))
 
 
 @pytest.mark.parametrize("number", [0, 16, 2**32 - 1])

@@ -9,6 +9,7 @@ are drawn.
 
 tests/support/library.c also computes each answer in parts, and runs its plan, whole, cut and
 spoilt. It does so on eight threads, with each request for memory refused, and under valgrind.
+tests/support/stack.c measures the stack of each call.
 test_calls.py has the calls that only Python makes. tests/support/built.cpp and the example in Rust print
 the headers that the builders make.
 """
@@ -42,6 +43,8 @@ MOST_BESIDE = 2**20
 # One of so many short frames is run under valgrind; a short frame has at most these bytes.
 EVERY, FEW_BYTES = 24, 4_000
 SECONDS = 600
+# The largest parts of TENSOR_STACK that a call may take: for one operation, and for a deep expression.
+OF_ONE, OF_DEEP = 0.1, 0.75
 NO_ARRAYS = 2**64 - 1
 # What the builders in C++ and Rust make, and the inputs: their dims and values.
 BUILT = os.path.join(TOP, "tests", "cases", "built.cases")
@@ -55,6 +58,19 @@ TWO, NAMES = '"a":{"dims":[2]},"b":{"dims":[2]}', '"B":{"dims":[]},"a":{"dims":[
 DATA = '"a":{"dims":[2],"data":[1,2]}'
 ENDS = [LEAST, GREATEST, -1, 1]
 TOO_LONG, NOT_JSON, BAD_TENSOR = "error 1 TooLong", "error 2 NotJson", "error 7 BadTensor"
+PAIRS, RANK_8 = [1, 2, 10, 20], '{"data":[-1,-2],"dims":[1,1,1,1,1,1,1,2]}'
+LETS = '{"data":[120,482],"dims":[2]}'
+# By the number of levels of `b - (b - (.. a))`.
+LEVELS = {63: '{"data":[9,18],"dims":[2]}', 64: '{"data":[1,2],"dims":[2]}'}
+LEVELS |= {125: LEVELS[63], 126: LEVELS[64]}
+
+
+def nested(depth, expr):
+    """An expression of this many operations, each of which stands at the `*` of the one around it."""
+    before, behind = expr.split("*")
+    return before * depth + '"a"' + behind * depth
+
+
 # Header, values, and the line that answers.
 OWN = [
     (header(TWO, '["add","a","b"]'), ENDS, f'{{"data":[{GREATEST},{LEAST}],"dims":[2]}}'),
@@ -79,6 +95,10 @@ OWN = [
     ("[", [1], NOT_JSON),
     (" " * MOST, [], NOT_JSON),
     (" " * (MOST + 1), [], TOO_LONG),
+    # What a plan has room for: the highest rank, bindings, and many levels.
+    *((header('"a":{"dims":[1,1,1,1,1,1,1,2]}', '["neg","a"]', it), [1, 2], RANK_8) for it in (2, 3)),
+    (header(TWO, '["let","y",["add","a","b"],["let","z",["mul","y","y"],["sub","z","a"]]]', 3), PAIRS, LETS),
+    *((header(TWO, nested(it, '["sub","b",*]'), 3), PAIRS, LEVELS[it]) for it in LEVELS),
 ]
 # Dims that no tensor with these values has.
 NO_DIMS = [("[1048577]", []), ("[]", []), ("[]", [5, 6]), ("1", [5]), ("[-1]", []), ('["1"]', [5])]
@@ -266,6 +286,30 @@ def test_c_peaks(caller, room):
         whole, *by_parts = map(int, line.split())
         most = MOST_BESIDE + 8 * packed
         assert whole <= 8 * count + most and max(by_parts) <= most, f"{expr}: {line}"
+
+
+# Expressions over vectors of two values, by what is deep in them. No text nests deeper.
+DEEP = {
+    "one operation": '["add","a","b"]',
+    "an operation on values": nested(126, '["neg",*]'),
+    "the first of two operands": nested(126, '["add",*,"b"]'),
+    "the last of three operands": nested(126, '["select","a","b",*]'),
+    "a movement": nested(125, '["reverse",*,[true]]'),
+    "a convolution": nested(124, '["convolve",*,["slice","b",[0],[1]],[0]]'),
+    "what a let names": f'["let","y",{nested(125, """["neg",*]""")},["mul","y","y"]]',
+    "lets": "".join(f'["let","y{it}",["neg","a"],' for it in range(125)) + '"b"' + "]" * 125,
+}
+
+
+@pytest.mark.parametrize("expr", DEEP.values(), ids=DEEP)
+def test_c_stack(compiled, expr):
+    """Each call takes less than TENSOR_STACK, with a margin, on a thread whose stack is painted."""
+    program = compiled(f"{SUPPORT}/stack.c", "stack", "-pthread")
+    lines = output(program, header(TWO, expr, 3), 2, 2).split("\n")[:-1]
+    (_, _, stack), *calls = (it.split() for it in lines)
+    most = int(stack) * (OF_ONE if expr == DEEP["one operation"] else OF_DEEP)
+    for name, result, taken in calls:
+        assert int(result) >= 0 and 0 < int(taken) <= most, f"{name}: {result}, {taken}"
 
 
 def test_c_under_valgrind(caller, room, few):

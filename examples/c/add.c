@@ -31,6 +31,11 @@ static void answer(const char *header)
 
 int main(void)
 {
+    if (tensor_version() != TENSOR_VERSION_NUMBER) {
+        fprintf(stderr, "the library has version %" PRId64 ", the header %d\n", tensor_version(),
+                TENSOR_VERSION_NUMBER);
+        return 1;
+    }
     answer("{\"version\":1,\"workers\":1,\"block\":1024,"
            "\"inputs\":{\"a\":{\"dims\":[3]},\"b\":{\"dims\":[3]}},"
            "\"expr\":[\"add\",\"a\",\"b\"]}");

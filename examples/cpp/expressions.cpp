@@ -23,6 +23,7 @@ static std::vector<std::int64_t> values(const tensor::Expr &expr, tensor::Values
 
 int main()
 {
+    tensor::check_version();
     // Two points and three others, each with two coordinates, which are the first axis.
     const std::vector<std::int64_t> points{0, 0, 3, 4}, others{1, 1, 3, 3, 6, 8};
     const auto p = tensor::input(0, {2, 2}), q = tensor::input(1, {2, 3});

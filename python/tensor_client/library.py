@@ -39,6 +39,20 @@ def arrays_of(parts: List[Bytes]) -> Any:
     return (NUMBER * (2 * len(pairs)))(*[it for pair in pairs for it in pair])
 
 
+def check_version(opened: Any, named: str) -> None:
+    """Refuses a library that has another version than this client."""
+    from . import __version__  # The package has it by the time that a library is opened.
+
+    function = getattr(opened, "tensor_version", None)
+    if function is None:
+        raise ProgramFailed(f"no library: {named} is older than this client, {__version__}")
+    function.argtypes, function.restype = [], ctypes.c_int64
+    number: int = function()
+    found = f"{number // 1_000_000}.{number // 1_000 % 1_000}.{number % 1_000}"
+    if found != __version__:
+        raise ProgramFailed(f"no library: {named} is version {found}, and this client {__version__}")
+
+
 class Library:
     """The library, opened, and its functions. Raises ProgramFailed if it can't be opened."""
 
@@ -58,6 +72,7 @@ class Library:
             self.pool_close: Any = opened.tensor_pool_close
         except (OSError, AttributeError) as fault:
             raise ProgramFailed(f"no library: {by}{path}: {fault}") from fault
+        check_version(opened, f"{by}{path}")
         over = [POINTER, SIZE, POINTER, SIZE, NUMBER, POINTER, SIZE]
         for function, arguments in (
             (self.evaluate, [POINTER, SIZE] * 4),

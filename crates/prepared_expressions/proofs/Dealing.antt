@@ -1,12 +1,14 @@
 -- Arrays dealt to inputs, one after another.
 use Rattle.std.proofs.Common.{◌≡◌, ◌<◌, ◌≤◌, ◌≢◌, ◌&&◌, ◌==◌, ℕ, zero, suc, ℤ, Bool, true, false, List, [], ◌∷◌, ◌++◌, length, take, drop, nat_le}
-use Rattle.std.proofs.Common.{Result, Ok, Err, if◌then◌else◌, refl, ap, sym, ◌∙◌, subst, inl, inr, arith, append_assoc}
+use Rattle.std.proofs.Common.{◌↔◌, is_ok, Result, Ok, Err, if◌then◌else◌, refl, ap, sym, ◌∙◌, subst, inl, inr, arith, append_assoc}
 use Rattle.std.proofs.lemmas.Bool.{and_parts, and_from, le-leb, leb-true}
 use Rattle.std.proofs.lemmas.List.{take-append-drop, length-append, length-take}
 use Rattle.std.proofs.Math.Seq.{take-append_seam, drop-append_seam}
 use Rattle.tensor_shape.specs.Index.{size_of}
 use Rattle.tensor_shape.specs.Legal.{are_legal, bulk_of, IsWithin}
 use Rattle.tensor_shape.specs.declared.bounds.Bounds.{Bounds}
+use Rattle.tensor_shape.specs.declared.shape_fault.ShapeFault.{ShapeFault}
+use Rattle.tensor_shape.specs.declared.shape_fault.ShapeFault.TheVariants.{RankTooHigh, TooManyElements}
 use Rattle.tensor_terms.specs.Contents.{Contents, AreWithin, input_of}
 use Rattle.prepared_expressions.specs.private.Dealing.{Dealing, One, one_from, after, next_from, all_from}
 use Rattle.prepared_expressions.specs.Prepared.{recorded_dims, all_legal, dims_of_all, values_of_all, before, dealt, Prepared, IsPrepared, IsRecordable, form_of, record_of, terms_of}
@@ -175,6 +177,18 @@ all_legal-take bounds (t ∷ ts) (suc i) within before here =
     let parts = and_parts (are_legal bounds t.dims) (all_legal bounds (dims_of_all (take i ts))) before in
     and_from (are_legal bounds t.dims) (all_legal bounds (dims_of_all (take (suc i) ts))) parts.0
     (all_legal-take bounds ts i (omega arith) parts.1 here)
+
+pub false-true : false ≡ true → ⊥
+false-true is = cc
+
+-- dims within bounds are taken
+pub within-taken : {A : Type 0} (bounds : Bounds) (d : List ℕ) (r : Result A ShapeFault) → IsWithin bounds d
+    → (r ≡ Err RankTooHigh) ↔ (bounds.rank < length d)
+    → (r ≡ Err TooManyElements) ↔ ((length d ≤ bounds.rank) × (bounds.elements < bulk_of d)) → is_ok r ≡ true
+within-taken bounds d (Ok x) within rank elements = refl
+within-taken bounds d (Err RankTooHigh) within rank elements = absurd (omega (arith, rank.0 refl, within.rank))
+within-taken bounds d (Err TooManyElements) within rank elements =
+    absurd (omega (arith, (elements.0 refl).1, within.elements))
 
 pub are_legal-from : (bounds : Bounds) (d : List ℕ) → IsWithin bounds d → are_legal bounds d ≡ true
 are_legal-from bounds d within =

@@ -45,6 +45,13 @@ pub writable-last : (ts : List Term) (t : Term) → All IsWritable (ts ++ t ∷ 
 writable-last ts t all =
     subst IsWritable (get_or-append_seam ts t [] t) (all (length ts) t (omega (arith, length-append ts (t ∷ []))))
 
+-- the term of one of the expressions
+pub writable-at : (es : List Expr) (i : ℕ) (e : Expr) → i < length es → e ≡ get_or es i e → All IsWritable (terms_in es)
+    → IsWritable (term_of e)
+writable-at [] i e more is all = absurd (omega arith)
+writable-at (x ∷ es) zero e more is all = subst (λ y. IsWritable (term_of y)) (sym is) (all 0 (term_of e) (omega arith))
+writable-at (x ∷ es) (suc i) e more is all = writable-at es i e (omega arith) is (λ k d below. all (suc k) d (omega arith))
+
 pub recorded_all-append : (ts us : List Term) (rest : List ℕ)
     → recorded_all (ts ++ us) rest ≡ recorded_all ts (recorded_all us rest)
 recorded_all-append [] us rest = refl

@@ -3,7 +3,7 @@
 //! refused.
 
 ghost use Rattle.std.specs.Prelude.{◌≡◌, ◌≢◌, ◌⊎◌, ◌<◌, ◌+◌, ◌^◌, ◌++◌, ◌∷◌, ℕ, List};
-ghost use Rattle.std.specs.Prelude.{IsTrue, IfOk, OnOk, IfSome, IfNone};
+ghost use Rattle.std.specs.Prelude.{IsTrue, IfOk, IfErr, OnOk, IfSome, IfNone};
 ghost use Rattle.expr_reader.specs.Arrays.{arrays_under};
 ghost use Rattle.tensor_shape.specs.Legal.{text_elements, most_elements, IsPossible};
 ghost use Rattle.prepared_expressions.specs.Filled.{IsFilled, IsFilledOf, prepared_under};
@@ -34,11 +34,13 @@ const WIDE_FORM: u64 = 4;
 ///
 /// # Errors
 ///
-/// [`Refusal::TooLarge`] if the expression does not fit in a record, or [`Refusal::NoMemory`].
+/// [`Refusal::TooLarge`] only if the expression does not fit in a record, or [`Refusal::NoMemory`].
 pub fn prepare(alloc: Global, filled: &Filled<'_>) -> Result<Vec<u64>, Refusal>
     ensures numbers { IfOk result (λ numbers.
         numbers.items ≡ record_of (prepared_under filled.now)) }
     ensures prepared { IfOk result (λ numbers. IsPrepared (prepared_under filled.now)) }
+    ensures refused { IsPrepared (prepared_under filled.now)
+        → IfErr result (λ f. f ≡ Refusal.NoMemory) }
 {
     let bounds = filled.inputs.bounds();
     let Some(form) = form_of(bounds) else {
@@ -59,6 +61,8 @@ fn write_dims(numbers: &mut Vec<u64>, inputs: &Inputs<'_>, bounds: Bounds) -> Re
     ensures numbers { OnOk result ((rest : List ℕ) → numbers.new.items ++ rest
         ≡ numbers.old.items ++ recorded_dims (dims_of_all inputs.now.tensors) rest) }
     ensures legal { OnOk result (IsTrue (all_legal bounds (dims_of_all inputs.now.tensors))) }
+    ensures refused { IsTrue (all_legal bounds (dims_of_all inputs.now.tensors))
+        → IfErr result (λ f. f ≡ Refusal.NoMemory) }
 {
     for number in 0..inputs.len() {
         let sizes = inputs.get(number).dims().as_slice();
@@ -143,6 +147,7 @@ fn read_start(numbers: &[u64]) -> Option<Start<'_>>
 fn form_of(bounds: Bounds) -> Option<u64>
     ensures form { IfSome result (λ form. form ≡ form_of bounds.elements) }
     ensures bounds { IfSome result (λ form. IsRecordable bounds) }
+    ensures none { IfNone result (IsRecordable bounds → ⊥) }
 {
     if bounds.rank != 6 && bounds.rank != 8 {
         return None;

@@ -1,7 +1,7 @@
 //! Writes expressions as numbers. `tree.rt` and `arguments.rt` read them; `specs/Recorded` defines
 //! them.
 
-ghost use Rattle.std.specs.Prelude.{◌≡◌, ◌++◌, ◌∷◌, ◌≤◌, ℕ, List, length, IfOk, OnOk};
+ghost use Rattle.std.specs.Prelude.{◌≡◌, ◌++◌, ◌∷◌, ◌≤◌, ℕ, List, length, IfOk, IfErr, OnOk};
 ghost use Rattle.std.specs.List.{All};
 ghost use Rattle.prepared_expressions.specs.Bindings.{terms_in};
 ghost use Rattle.prepared_expressions.specs.Numbers.{headed, number_of};
@@ -31,6 +31,8 @@ pub(crate) fn write_tree(
         ≡ numbers.old.items ++ recorded (term_of expr.now) rest) }
     ensures ranges { OnOk result (HasRanges (term_of expr.now)) }
     ensures height { OnOk result (height_of (term_of expr.now) ≤ height) }
+    ensures refused { height_of (term_of expr.now) ≤ height
+        → IfErr result (λ f. f ≡ Refusal.NoMemory) }
 {
     if height == 0 {
         return Err(Refusal::TooLarge);
@@ -73,6 +75,8 @@ pub(crate) fn write_trees(
     ensures numbers { OnOk result ((rest : List ℕ) → numbers.new.items ++ rest
         ≡ numbers.old.items ++ recorded_all (terms_in exprs.now) rest) }
     ensures writable { OnOk result (All IsWritable (terms_in exprs.now)) }
+    ensures refused { All IsWritable (terms_in exprs.now)
+        → IfErr result (λ f. f ≡ Refusal.NoMemory) }
 {
     for expr in exprs {
         write_tree(alloc, numbers, expr, MAX_HEIGHT)?;

@@ -3,3 +3,4 @@ pub mod Call
 pub mod Part
 pub mod Plan
 pub mod Shared
+pub mod Version

@@ -27,6 +27,7 @@ ghost use Rattle.tensor_c.specs.Part.{IsPartCall, called_for_part};
 ghost use Rattle.tensor_c.specs.Plan.{asked_over, plan_over, prepared_of, called_for_plan};
 ghost use Rattle.tensor_c.specs.Plan.{IsPlan, IsPlanCall, answer_of_plan, IsRefused};
 ghost use Rattle.tensor_c.specs.Shared.{shared_over, called_for_count, IsCountCall};
+ghost use Rattle.tensor_c.specs.Version.{version};
 
 use crate::arrays::{dims_over, put_part_over};
 use crate::evaluation::{dims_of, put_answer};
@@ -210,4 +211,13 @@ pub extern "C" fn tensor_fault_name(number: u32, name: &mut [u8]) -> i64
         return 0;
     };
     put_text(fault.name().as_bytes(), name)
+}
+
+/// Returns the version of the library as one number: 1,000,000 times its first number, plus 1,000
+/// times its second number, plus its third number. A plan is valid for one version.
+#[unsafe(no_mangle)]
+pub extern "C" fn tensor_version() -> i64
+    ensures { result ≡ pos version }
+{
+    3_000_000
 }

@@ -32,6 +32,14 @@ extern "C" {
     fn tensor_dims(header: *const u8, header_length: usize, count: u64,
         dims: *mut u64, dims_length: usize) -> i64;
     fn tensor_fault_name(number: u32, name: *mut u8, name_length: usize) -> i64;
+    fn tensor_version() -> i64;
+}
+
+/// The version of the library, as its file VERSION has it.
+pub fn version() -> String {
+    // SAFETY: the call takes no pointer.
+    let number = unsafe { tensor_version() };
+    format!("{}.{}.{}", number / 1_000_000, number / 1_000 % 1_000, number % 1_000)
 }
 
 /// A request text in which each tensor is its dims alone.

@@ -1,15 +1,16 @@
 use Rattle.std.proofs.Common.{◌≡◌, ◌++◌, ◌∷◌, [], length, true, ap, sym, subst, ◌∙◌, arith}
 use Rattle.std.proofs.lemmas.List.{append-nil, length-map}
+use Rattle.std.proofs.lemmas.Result.{err_from_is_err_and}
 use Rattle.std.specs.List.{All}
 use Rattle.tensor_shape.specs.declared.bounds.Bounds.{Bounds}
 use Rattle.tensor_terms.specs.Tree.{term_of}
 use Rattle.expr_reader.specs.Bindings.{have_inputs}
 use Rattle.prepared_expressions.specs.Bindings.{terms_in}
 use Rattle.prepared_expressions.specs.Filled.{terms_under}
-use Rattle.prepared_expressions.specs.Prepared.{recorded_dims, dims_of_all, form_of, IsWritable}
+use Rattle.prepared_expressions.specs.Prepared.{recorded_dims, dims_of_all, all_legal, form_of, IsRecordable, IsWritable}
 use Rattle.prepared_expressions.specs.Recorded.{recorded, recorded_all}
 use Rattle.prepared_expressions.proofs.Dealing.{length-dims_of_all}
-use Rattle.prepared_expressions.proofs.TermLists.{recorded_all-append, writable-push}
+use Rattle.prepared_expressions.proofs.TermLists.{recorded_all-append, writable-push, writable-first, writable-last}
 use Rattle.prepared_expressions.proofs.prepared.prepare.Goals as goal
 
 pub returns-clause-numbers : goal.returns-clause-numbers
@@ -52,3 +53,29 @@ returns-clause-prepared c =
       writable = writable-push (terms_in es) (term_of filled.expr) first
           (record { ranges = c.in_ok-write_tree.ensures.ranges; height = c.in_ok-write_tree.ensures.height });
     }
+
+pub returns-in_default-clause-refused : goal.returns-in_default-clause-refused
+returns-in_default-clause-refused c = λ ok.
+    absurd (c.in_default.ensures.none (subst IsRecordable (sym c.bounds-bounds.ensures.value) ok.bounds))
+
+pub returns-in_err-write_dims-clause-refused : goal.returns-in_err-write_dims-clause-refused
+returns-in_err-write_dims-clause-refused c = λ ok.
+    let ds = dims_of_all c.args.filled.now.inputs.tensors in
+    let p = err_from_is_err_and c.from_residual-in_err-write_dims.result c.from_residual-in_err-write_dims.ensures.1 in
+    let legal = subst (λ b. all_legal b ds ≡ true) (sym c.bounds-bounds.ensures.value) ok.legal in
+    rw (p.1, p.2) (c.in_err-write_dims.ensures.refused legal)
+
+pub returns-in_err-write_trees-clause-refused : goal.returns-in_err-write_trees-clause-refused
+returns-in_err-write_trees-clause-refused c = λ ok.
+    let filled = c.args.filled.now in
+    let p = err_from_is_err_and c.from_residual-in_err-write_trees.result c.from_residual-in_err-write_trees.ensures.1 in
+    let first = writable-first (terms_in filled.bindings.items) (term_of filled.expr ∷ []) ok.writable in
+    rw (p.1, p.2)
+    (c.in_err-write_trees.ensures.refused (subst (λ l. All IsWritable (terms_in l)) (sym c.deref.ensures.value) first))
+
+pub returns-in_err-write_tree-clause-refused : goal.returns-in_err-write_tree-clause-refused
+returns-in_err-write_tree-clause-refused c = λ ok.
+    let filled = c.args.filled.now in
+    let p = err_from_is_err_and c.from_residual-in_err-write_tree.result c.from_residual-in_err-write_tree.ensures.1 in
+    let last = writable-last (terms_in filled.bindings.items) (term_of filled.expr) ok.writable in
+    rw (p.1, p.2) (c.in_err-write_tree.ensures.refused last.height)

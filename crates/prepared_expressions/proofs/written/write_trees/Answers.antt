@@ -1,11 +1,12 @@
 use Rattle.std.proofs.Common.{◌≡◌, ◌++◌, ◌∷◌, ◌+◌, [], take, ap, sym, subst, ◌∙◌}
 use Rattle.std.proofs.lemmas.List.{take_all}
+use Rattle.std.proofs.lemmas.Result.{err_from_is_err_and}
 use Rattle.std.specs.List.{All}
 use Rattle.tensor_terms.specs.Tree.{term_of}
 use Rattle.prepared_expressions.specs.Bindings.{terms_in}
 use Rattle.prepared_expressions.specs.Prepared.{IsWritable}
 use Rattle.prepared_expressions.specs.Recorded.{recorded, recorded_all}
-use Rattle.prepared_expressions.proofs.TermLists.{terms_in-take, recorded_all-append, writable-push}
+use Rattle.prepared_expressions.proofs.TermLists.{terms_in-take, recorded_all-append, writable-push, writable-at}
 use Rattle.prepared_expressions.proofs.written.write_trees.Goals as goal
 
 pub loop-expr-preserved : goal.loop-expr-preserved
@@ -33,3 +34,10 @@ pub returns-clause-writable : goal.returns-clause-writable
 returns-clause-writable c =
     subst (λ es. All IsWritable (terms_in es)) (take_all c.loop-expr.expr-index c.args.exprs.now c.loop-expr-test.false)
     c.loop-expr.invariant.writable
+
+pub returns-in_err-write_tree-clause-refused : goal.returns-in_err-write_tree-clause-refused
+returns-in_err-write_tree-clause-refused c = λ all.
+    let p = err_from_is_err_and c.from_residual.result c.from_residual.ensures.1 in
+    let e = c.expr-item.result in
+    let is = writable-at c.args.exprs.now c.loop-expr.expr-index e c.loop-expr-test.true c.expr-item.is all in
+    rw (p.1, p.2) (c.in_err-write_tree.ensures.refused is.height)
