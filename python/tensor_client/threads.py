@@ -26,7 +26,8 @@ def parts_worth(expr: Expr, size: int, workers: int, shared: Callable[[], int]) 
     1
     >>> parts_worth(tensor([0] * 65_536).cumsum(), 65_536, 4, lambda: 0)
     2
-    >>> parts_worth(sum(range(1, 20), tensor([0] * 65_536)), 65_536, 4, lambda: 0)
+    >>> x = tensor([0] * 65_536)
+    >>> parts_worth((x + 1) * (x + 2) * (x + 3) * (x + 4) * (x + 5), 65_536, 4, lambda: 0)
     4
     """
     values = size * combined(expr)
