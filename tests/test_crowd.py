@@ -24,7 +24,7 @@ from sockets import LISTS, PIECE, Client, Setup, endless, no_request, served, sm
 pytestmark = [pytest.mark.usefixtures("programs"), pytest.mark.timed]
 
 # In how many seconds a small request has to be answered, also by a service that has no place at first.
-BOUND = 5
+BOUND = 10
 # How many connections a service has at once. Of these kinds and numbers are its clients: silent ones
 # alone would take all places.
 PLACES = 16
