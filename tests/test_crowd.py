@@ -215,8 +215,10 @@ def test_crowd_within_limits(at, pytestconfig):
 
 
 def test_crowd_without_limits():
-    """What the trial sees where nothing is limited but the number of connections."""
-    with served((LINES, False), setup=PLACED) as service:
+    """What the trial sees where nothing is limited but the number of connections. The connections of
+    departed clients wait for a place too."""
+    setup = PLACED._replace(listening=("backlog=1024", f"max-children={PLACES}"))
+    with served((LINES, False), setup=setup) as service:
         crowd = visited(service, 2 * BOUND)
         assert max(crowd.took["new"]) > BOUND
         assert not until(service.is_idle, BOUND)
