@@ -120,7 +120,10 @@ class Built(unittest.TestCase):
 
     def test_faults_where_they_are_written(self):
         x, y = tensor([[1, 2, 3], [4, 5, 6]]), tensor([1, 2])
+        wide, long = tensor([[1]]).broadcast(16_384, 16_384), tensor([1]).broadcast(2**28)
         for fault, refused in (
+            (client.TooLarge, lambda: wide @ wide.slice([0, 0], [16_384, 4_097])),
+            (client.TooLarge, lambda: long.convolve(long.slice([0], [4_097]), 0)),
             (client.ShapeMismatch, lambda: x + y),
             (client.ShapeMismatch, lambda: where(x > 1, x, y)),
             (client.ShapeMismatch, lambda: x.broadcast(2)),
@@ -238,10 +241,20 @@ class Built(unittest.TestCase):
         ):
             text = client.request(expr, **settings)
             self.assertTrue(text.startswith(f'{{"version":{version},'), text)
+        one = tensor([1])
+        many = one.broadcast(65_537).convolve(one.broadcast(32_513), 0)
+        for version, expr in ((2, one.broadcast(65_536).convolve(one.broadcast(32_512), 0)), (3, many)):
+            self.assertIn(b'{"version":%d,' % version, framed(expr, Settings()).header[:14])
+        with self.assertRaisesRegex(client.BadVersion, "more than 1,073,741,824 products"):
+            client.request(many)
 
     def test_dims_that_are_known_here(self):
         x = tensor([[1, 2, 3], [4, 5, 6]])
+        wide, long = tensor([[1]]).broadcast(16_384, 16_384), tensor([1]).broadcast(2**28)
         for expr, dims in (
+            # As many products as there may be, and some fewer.
+            (wide @ wide.slice([0, 0], [16_384, 4_096]), (16_384, 4_096)),
+            (long.convolve(long.slice([0], [4_096]), 0), (2**28 - 4_095,)),
             (x.stride(1, 2), (2, 2)),
             (x.stride([3, 3]), (1, 1)),
             (x.pad([(1, 0), (2, 3)]), (3, 8)),

@@ -8,7 +8,7 @@ import sys
 import unittest
 
 import tensor_client as client
-from tensor_client import compile, placeholder, tensor, where
+from tensor_client import Expr, compile, placeholder, tensor, where
 from tensor_client.rules import FIRST_ELEMENTS
 from asking import OneWay, each_way, only_by
 
@@ -89,6 +89,30 @@ class Sizes(OneWay):
                     self.agree(getattr(-x, name)(axis), getattr(numpy, name)(-array, axis))
                 offsets = line(1_000) % array.shape[axis]
                 self.agree(x.take(offsets, axis), array.take(offsets, axis), workers=2)
+
+    def test_products(self):
+        """More products than the versions of texts have. Drawn values of the result are compared, and its
+        product with a line."""
+        left, right = line(2 * 2_048**2).reshape(2, 2_048, 2_048)
+        rows, row = line(64) % 2_048, line(2_048)
+        columns = rows[::-1]
+        found = self.ask(tensor(left) @ right, workers=4).array()
+        self.assertEqual(found.shape, left.shape)
+        wanted = (left[rows] * right[:, columns].T).sum(axis=1)
+        self.assertTrue(numpy.array_equal(found[rows, columns], wanted))
+        self.assertTrue(numpy.array_equal(found @ row, left @ (right @ row)))
+
+    def test_products_under_a_kernel(self):
+        array, kernel = line(2**18), line(2**13)
+        found = self.ask(tensor(array).convolve(kernel, 0), workers=4).array()
+        self.assertEqual(found.shape, (2**18 - 2**13 + 1,))
+        for place in range(0, len(found), 9_973):
+            self.assertEqual(found[place], array[place : place + 2**13] @ kernel)
+
+    def test_too_many_products(self):
+        x = tensor([[1]]).broadcast(16_384, 16_384)
+        expr = Expr("contract", [x, x], [[[1, 0]]])
+        self.assertRaises(client.TooLarge, self.ask, expr)
 
     def test_operations_that_are_combined(self):
         """In runs of each length round a piece of 1,024 values, and all together."""

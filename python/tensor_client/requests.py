@@ -21,12 +21,12 @@ from .rewriting.bindings import (
 )
 from .rewriting.chains import GROUPED, balanced
 from .rewriting.texts import as_in_texts
-from .rules import FIRST_ELEMENTS, MOST_ELEMENTS, Dims, places
+from .rules import FIRST_ELEMENTS, FIRST_PRODUCTS, MOST_ELEMENTS, Dims, places, product
 from .tensors import Placeholder, Tensor, an_expr
 from .values import whole
 
-# Limits of version 1. More axes and workers need version 2. More elements, places of a block and nodes
-# need version 3.
+# Limits of version 1. More axes and workers need version 2. More elements, products, places of a block
+# and nodes need version 3.
 FIRST_RANK, FIRST_WORKERS = 6, 64
 # The first version that has an operation, if it isn't 1. Texts don't have version 3.
 VERSIONS = dict.fromkeys("stride pad concat convolve".split(), 2)
@@ -77,6 +77,22 @@ def version_of(dims: Dims) -> int:
     if FIRST_ELEMENTS < places(dims) <= MOST_ELEMENTS:
         return 3
     return 2 if len(dims) > FIRST_RANK else 1
+
+
+def version_for(expr: Expr) -> int:
+    """Returns the first version that has an operation, and a convolution of this many products. A
+    contraction of more products than version 2 has is of dims that it doesn't have.
+
+    >>> x = tensor([0] * 65_537)
+    >>> version_for(x.convolve([0] * 9, 0)), version_for(x.convolve([0] * 32_513, 0))
+    (2, 3)
+    """
+    found = VERSIONS.get(expr.operation, 1)
+    if expr.operation == "convolve" and expr.dims is not None:
+        summed = expr.operands[1].dims or ()
+        if product(expr.dims) * product(summed) > FIRST_PRODUCTS:
+            return 3
+    return found
 
 
 def nested(text: str) -> int:
@@ -174,7 +190,7 @@ class Text:
         if it.dims is not self.dims:
             self.see(it.dims)
         if it.operation in VERSIONS:
-            self.version = max(self.version, VERSIONS[it.operation])
+            self.version = max(self.version, version_for(it))
         if self.balance and it.operation in GROUPED and len(it.operands) == 2:
             it = balanced(it, self.bound)
         arguments = "".join(["," + compact(more) for more in it.arguments]) if it.arguments else ""
@@ -282,7 +298,10 @@ def fitting_request(expr: Expr, settings: Settings) -> str:
 def as_text(found: Text, settings: Settings) -> str:
     """Returns the text of a request with the values of its inputs. Raises BadVersion and TooLong."""
     if settings.version is None and found.version > LAST_OF_TEXTS:
-        why = f"integer operations, or more than {FIRST_ELEMENTS:,} places, need it"
+        why = (
+            f"integer operations, more than {FIRST_ELEMENTS:,} places, or more than "
+            f"{FIRST_PRODUCTS:,} products need it"
+        )
         raise BadVersion(f"no text has version {found.version}; {why}: use the library and frames")
     inputs = (
         f'{name[1:]}:{{{dims_text(it.dims or ())},"data":[{commas(it.values)}]}}'

@@ -16,11 +16,13 @@ Pairs = Sequence[Sequence[int]]
 
 # Limits of version 3 of the request. Earlier versions allow less (requests.py).
 MOST_ELEMENTS = 268_435_456
-MOST_PRODUCTS = 1_073_741_824
+MOST_PRODUCTS = 1_099_511_627_776
 MOST_RANK = 8
 # The most elements in all versions. An operation over all pairs of places takes pieces of this size,
 # or larger ones if there would be more than MOST_PIECES.
 FIRST_ELEMENTS, MOST_PIECES = 1_048_576, 50
+# The most products of a contraction or a convolution in all versions.
+FIRST_PRODUCTS = 1_073_741_824
 
 
 def product(numbers: Sequence[int]) -> int:
@@ -175,7 +177,8 @@ def contracted(left: Dims, right: Dims, ours: Sequence[int], theirs: Sequence[in
     for our, their in zip(ours, theirs):
         if left[our] != right[their]:
             raise ShapeMismatch(f"axis {our} of dims {left} isn't as long as axis {their} of dims {right}")
-    return legal(without(left, ours) + without(right, theirs))
+    found = legal(without(left, ours) + without(right, theirs))
+    return few_products(found, [left[it] for it in ours])
 
 
 def slid(dims: Dims, kernel: Dims, axes: Sequence[int]) -> Dims:
@@ -186,10 +189,19 @@ def slid(dims: Dims, kernel: Dims, axes: Sequence[int]) -> Dims:
     for axis, it in along.items():
         if not 1 <= it <= dims[axis]:
             raise OutOfRange(f"a kernel of {it} places along axis {axis} of dims {dims}")
-    found = tuple(it - along.get(axis, 1) + 1 for axis, it in enumerate(dims))
-    if product(found) * product(kernel) > MOST_PRODUCTS:
-        raise TooLarge(f"a convolution of more than {MOST_PRODUCTS:,} products: run a part at a time")
-    return found
+    return few_products(tuple(it - along.get(axis, 1) + 1 for axis, it in enumerate(dims)), kernel)
+
+
+def few_products(dims: Dims, summed: Sequence[int]) -> Dims:
+    """Returns the dims of a result whose values are sums of products over indices of the sizes `summed`.
+    Raises TooLarge if there are too many products.
+
+    >>> few_products((16_384, 4_096), [16_384])
+    (16384, 4096)
+    """
+    if product(dims) * product(summed) > MOST_PRODUCTS:
+        raise TooLarge(f"more than {MOST_PRODUCTS:,} products are summed: run a part at a time")
+    return dims
 
 
 def spread(expr: Expr, dims: Dims) -> Expr:

@@ -10,7 +10,7 @@ import itertools
 import math
 import operator
 
-from .rules import MOST_PRODUCTS, VALUES, are_legal, need
+from .rules import VALUES, are_legal, need
 
 
 def wrap(number):
@@ -225,7 +225,7 @@ def contract_dims(version, left, right, pairs):
     need(all(left[i] == right[j] for i, j in pairs), 12)
     kept = [left[axis] for axis in others(firsts, left)]
     dims = legal(version, kept + [right[axis] for axis in others(seconds, right)])
-    need(size(dims) * size([left[axis] for axis in firsts]) <= MOST_PRODUCTS, 14)
+    need(size(dims) * size([left[axis] for axis in firsts]) <= version.most_products, 14)
     return dims
 
 
@@ -245,13 +245,13 @@ def contract(dims, x, y, pairs):
     return Tensor.of(dims, value_at)
 
 
-def convolve_dims(_version, dims, kernel, axes):
+def convolve_dims(version, dims, kernel, axes):
     axes_are_there(axes, dims)
     need(len(kernel) == len(axes), 12)
     need(all(1 <= k <= dims[axis] for k, axis in zip(kernel, axes)), 13)
     along = dict(zip(axes, kernel))
     found = [it - along.get(axis, 1) + 1 for axis, it in enumerate(dims)]
-    need(size(found) * size(kernel) <= MOST_PRODUCTS, 14)
+    need(size(found) * size(kernel) <= version.most_products, 14)
     return found
 
 

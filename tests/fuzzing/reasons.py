@@ -10,7 +10,7 @@ import math
 import re
 
 from .operations import OPERATIONS_OF, contract_dims, others
-from .rules import FORMS, MOST_PRODUCTS, VALUES, VERSIONS, is_value
+from .rules import FORMS, VALUES, VERSIONS, is_value
 from .wording import COUNTS, FORM_WORDS, ITEMS, MEANT, NAMES_OF
 
 MOST_SHOWN = 60
@@ -236,7 +236,7 @@ def contract(version, left, right, pairs):
     return wrong or illegal(version, kept)
 
 
-def convolve(_version, dims, kernel, axes):
+def convolve(version, dims, kernel, axes):
     if wrong := axes_in("AXES", axes, dims):
         return wrong
     if len(kernel) != len(axes):
@@ -249,7 +249,7 @@ def convolve(_version, dims, kernel, axes):
     along = dict(zip(axes, kernel))
     places = math.prod(it - along.get(axis, 1) + 1 for axis, it in enumerate(dims))
     each = math.prod(kernel)
-    many = f"{places * each} products; at most {MOST_PRODUCTS} are allowed"
+    many = f"{places * each} products; at most {version.most_products} are allowed"
     return f"{places} places of {each} products each are {many}"
 
 

@@ -5,7 +5,6 @@ from typing import NamedTuple
 
 MOST_BYTES = 16_777_216
 MOST_NESTING = 127
-MOST_PRODUCTS = 1_073_741_824
 MOST_SIZE = 2**63 - 1
 VALUES = range(-(2**63), 2**63)
 WORDS = range(-(2**63), 2**64)
@@ -37,6 +36,8 @@ class Version(NamedTuple):
     most_workers: int
     # Of a tensor, and of a block.
     most_places: int = 1_048_576
+    # Of a contraction or a convolution.
+    most_products: int = 1_073_741_824
     most_nodes: int = 1_000
     # Behind a frame's header.
     most_values: int = 16_777_216
@@ -45,7 +46,7 @@ class Version(NamedTuple):
 
 # Those of a text, and those of a frame.
 VERSIONS = {it.number: it for it in (Version(1, 6, 64), Version(2, 8, 256))}
-THIRD = Version(3, 8, 256, 268_435_456, 10_000, 4_294_967_296, has_let=True)
+THIRD = Version(3, 8, 256, 268_435_456, 1_099_511_627_776, 10_000, 4_294_967_296, has_let=True)
 FRAME_VERSIONS = {**VERSIONS, 3: THIRD}
 
 

@@ -4,9 +4,7 @@
 use crate::sizes::{no_axis, places, sizes_in, why_axes, why_illegal};
 use serde_json::Value;
 use std::alloc::{AllocError, Global};
-
-/// The most products of a convolution in a request text.
-const MOST_PRODUCTS: u64 = 1_073_741_824;
+use tensor_ops::TEXT_PRODUCTS;
 
 /// Says why two operands can't be concatenated along an axis.
 pub(crate) fn why_concat(
@@ -172,7 +170,7 @@ pub(crate) fn why_convolve(
 fn why_many(alloc: Global, slid: &[u64], kernel: &[u64]) -> Result<Option<String>, AllocError> {
     let (result, each) = (places(slid), places(kernel));
     let reason = format!(in alloc;
-        "{result} places of {each} products each are {} products; at most {MOST_PRODUCTS} are allowed",
+        "{result} places of {each} products each are {} products; at most {TEXT_PRODUCTS} are allowed",
         result.saturating_mul(each)
     )?;
     Ok(Some(reason))

@@ -1,6 +1,7 @@
 -- Convolutions of operands that were lowered, and their computed values.
 use Rattle.std.proofs.Common.{◌≡◌, ℕ, ℤ, ◌<◌, List, Ok, sym, subst, arith}
 use Rattle.tensor_shape.specs.Index.{size_of, IsIndexOf, place, index_of}
+use Rattle.tensor_shape.specs.Legal.{widest}
 use Rattle.tensor_terms.specs.Convolution.{convolved, convolved_dims}
 use Rattle.tensor_ops.specs.private.Lowering.{HasValues}
 use Rattle.tensor_terms.proofs.Convolutions.{convolved-other}
@@ -9,7 +10,7 @@ use Rattle.tensor_ops.proofs.Worked.{values-other, values-agree}
 
 -- a convolution of two operands whose values are those of functions
 pub values-convolved : (axes ds ks rs : List ℕ) (n m count : ℕ) (of on at : ℕ → ℤ)
-    (f g : List ℕ → ℤ) → convolved_dims axes ds ks ≡ Ok rs
+    (f g : List ℕ → ℤ) → convolved_dims widest axes ds ks ≡ Ok rs
     → HasValues n of ds f → HasValues m on ks g → count ≡ size_of rs
     → ((p : ℕ) → p < count → at p ≡ convolved axes ks (λ js. of (place ds js))
     (λ js. on (place ks js)) (index_of rs p))

@@ -4,7 +4,7 @@ use Rattle.std.proofs.Common.{refl, ap, sym, subst, ◌∙◌, arith}
 use Rattle.std.proofs.lemmas.List.{get_or-map}
 use Rattle.std.proofs.Math.Nat.{mul-le-mul_right}
 use Rattle.tensor_shape.specs.Index.{size_of, strides_from, place, index_of}
-use Rattle.tensor_shape.specs.Legal.{bulk_of}
+use Rattle.tensor_shape.specs.Legal.{bulk_of, widest}
 use Rattle.tensor_shape.proofs.Places.{div-below}
 use Rattle.tensor_terms.specs.Convolution.{window_index, convolved_dims}
 use Rattle.tensor_terms.specs.Movement.{shuffled_dims}
@@ -38,7 +38,7 @@ stepped-runs [] (r ∷ rs) x same below = absurd (omega arith)
 stepped-runs (d ∷ ds) [] x same below = absurd (omega arith)
 stepped-runs (d ∷ ds) (r ∷ rs) x same below = omega arith
 
-module _ (axes ds ks rs : List ℕ) (dims : convolved_dims axes ds ks ≡ Ok rs) where
+module _ (axes ds ks rs : List ℕ) (dims : convolved_dims widest axes ds ks ≡ Ok rs) where
   convolution : IsConvolution axes ds ks
   convolution = known axes ds ks rs dims
 

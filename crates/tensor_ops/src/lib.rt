@@ -22,7 +22,7 @@ pub use tensor_kernels::{BAND_COLUMNS, PAIRED_COLUMNS, TILED_ROWS, WIDE_BAND_COL
 pub use tensor_scans::LineOperation;
 pub use tensor_shape::{Bounds, Dims, MAX_ELEMENTS, MAX_RANK, ShapeFault, TEXT_ELEMENTS, WIDEST};
 pub use tensor_terms::{
-    Binary, Cursor, Expr, ExprFault, Inputs, Movement, Node, Tensor, Ternary, Unary,
+    Binary, Cursor, Expr, ExprFault, Inputs, Movement, Node, TEXT_PRODUCTS, Tensor, Ternary, Unary,
     index_lists_are_merged_once,
 };
 pub use tensor_values::{BinaryScalar, Reducer, UnaryScalar};

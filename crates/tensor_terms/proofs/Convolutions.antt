@@ -5,6 +5,7 @@ use Rattle.std.specs.List.{range_with_len}
 use Rattle.std.specs.Result.{result_unwrap_or}
 use Rattle.std.proofs.lemmas.Simd.{map-map}
 use Rattle.tensor_shape.specs.Index.{size_of, IsIndexOf, place, index_of}
+use Rattle.tensor_shape.specs.Legal.{widest}
 use Rattle.tensor_shape.specs.Wrap.{wrap}
 use Rattle.tensor_shape.proofs.Places.{IsIndexOf-index_of, place-below-size_of}
 use Rattle.tensor_terms.specs.Convolution.{window_index, window_dims, convolved, convolved_dims}
@@ -49,7 +50,7 @@ convolved-other axes ds ks f g h k known same_f same_h is index =
     ∙ sym (convolved-fold axes ks g k is)
 
 -- index lists under the kernel, by the dims of the result
-module _ (axes ds ks rs : List ℕ) (dims : convolved_dims axes ds ks ≡ Ok rs) where
+module _ (axes ds ks rs : List ℕ) (dims : convolved_dims widest axes ds ks ≡ Ok rs) where
   pub known : IsConvolution axes ds ks
   known = convolution-known axes ds ks (rw dims refl)
 

@@ -25,12 +25,12 @@ module _ (inputs : List Contents) (axes : List ℕ) (a b : Term) where
   pub record IsConvolved : Type 0 where
     pub left : IsOk (dims_of widest a inputs)
     pub right : IsOk (dims_of widest b inputs)
-    pub dims : convolved_dims axes (shape_of a inputs) (shape_of b inputs)
+    pub dims : convolved_dims widest axes (shape_of a inputs) (shape_of b inputs)
         ≡ Ok (shape_of (binary (convolve axes) a b) inputs)
 
   pub convolved-known : IsOk (dims_of widest (binary (convolve axes) a b) inputs) → IsConvolved
   convolved-known h =
-      let two = with_two-known (convolved_dims axes) (dims_of widest a inputs)
+      let two = with_two-known (convolved_dims widest axes) (dims_of widest a inputs)
       (dims_of widest b inputs) h in
       record {
         left = two.0;
@@ -50,15 +50,15 @@ module _ (inputs : List Contents) (axes : List ℕ) (a b : Term) where
   pub record WindowOver (ds ks rs : List ℕ) (count : ℕ) : Type 0 where
     pub operand : ds ≡ shape_of a inputs
     pub kernel : ks ≡ shape_of b inputs
-    pub dims : convolved_dims axes ds ks ≡ Ok rs
+    pub dims : convolved_dims widest axes ds ks ≡ Ok rs
     pub whole : count ≡ size_of ks
 
   window_index-shape : (ds ks rs : List ℕ) (count : ℕ) → IsConvolved → WindowOver ds ks rs count
       → rs ≡ shape_of (binary (convolve axes) a b) inputs
   window_index-shape ds ks rs count is over =
       ap (λ r. result_unwrap_or r []) (sym over.dims
-      ∙ ap (λ d. convolved_dims axes d ks) over.operand
-      ∙ ap (λ e. convolved_dims axes (shape_of a inputs) e) over.kernel ∙ is.dims)
+      ∙ ap (λ d. convolved_dims widest axes d ks) over.operand
+      ∙ ap (λ e. convolved_dims widest axes (shape_of a inputs) e) over.kernel ∙ is.dims)
 
   -- a place of the result, within what the loop's dims have
   pub window_index-outer : IsOk (dims_of widest (binary (convolve axes) a b) inputs)

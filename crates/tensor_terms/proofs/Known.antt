@@ -7,7 +7,7 @@ use Rattle.std.specs.Result.{result_unwrap_or}
 use Rattle.tensor_shape.specs.Index.{size_of}
 use Rattle.tensor_shape.specs.Legal.{highest_rank, widest, most_elements, bulk_of, IsLegal, are_legal}
 use Rattle.tensor_terms.specs.Movement.{moved_dims, repeated_dims, shuffled_dims, strided_dims, none_is_zero, fit_within, has_all_below}
-use Rattle.tensor_terms.specs.Contraction.{firsts, seconds, outer_dims, contracted_dims, few_products, most_products}
+use Rattle.tensor_terms.specs.Contraction.{firsts, seconds, outer_dims, contracted_dims, few_products, products_within}
 use Rattle.tensor_terms.specs.Convolution.{convolved_dims, fit_along, window_dims}
 use Rattle.tensor_terms.specs.Reduction.{are_axes, reduced_dims}
 use Rattle.tensor_terms.specs.Shaped.{Shaped, legal_dims, with_one}
@@ -150,13 +150,13 @@ pub record IsContraction (pairs : List (ℕ × ℕ)) (ds es : List ℕ) : Type 0
   pub paired : dims_at (firsts pairs) ds ≡ dims_at (seconds pairs) es
   pub dims : contracted_dims widest pairs ds es ≡ Ok (outer_dims pairs ds es)
 
-few_products-known : (count : ℕ) (ds : List ℕ) → IsOk (with_one (few_products count) (legal_dims widest ds))
-    → with_one (few_products count) (legal_dims widest ds) ≡ Ok ds
+few_products-known : (count : ℕ) (ds : List ℕ) → IsOk (with_one (few_products widest count) (legal_dims widest ds))
+    → with_one (few_products widest count) (legal_dims widest ds) ≡ Ok ds
 few_products-known count ds h =
     elim (cases_Bool (are_legal widest ds)) [
       | inl legal ↦
           let checked = rw legal at h in
-          let few = check-known (nat_le (size_of ds * count) most_products) (Ok ds) TooLarge checked in
+          let few = check-known (nat_le (size_of ds * count) (products_within widest)) (Ok ds) TooLarge checked in
           rw (legal, few.0) refl
       | inr illegal ↦ let bad = rw illegal at h in (cc)
     ]
@@ -177,14 +177,14 @@ pub record IsConvolution (axes ds ks : List ℕ) : Type 0 where
   pub legal : are_axes (length ds) axes ≡ true
   pub ranks : length ks ≡ length axes
   pub fits : fit_along axes ks ds ≡ true
-  pub dims : convolved_dims axes ds ks ≡ Ok (window_dims axes ks ds)
+  pub dims : convolved_dims widest axes ds ks ≡ Ok (window_dims axes ks ds)
 
-pub convolution-known : (axes ds ks : List ℕ) → IsOk (convolved_dims axes ds ks) → IsConvolution axes ds ks
+pub convolution-known : (axes ds ks : List ℕ) → IsOk (convolved_dims widest axes ds ks) → IsConvolution axes ds ks
 convolution-known axes ds ks h =
     let legal = check-known (are_axes (length ds) axes) _ OutOfRange h in
     let ranks = check-known (nat_eq (length ks) (length axes)) _ ShapeMismatch legal.1 in
     let fits = check-known (fit_along axes ks ds) _ OutOfRange ranks.1 in
-    let few = check-known (nat_le (size_of (window_dims axes ks ds) * size_of ks) most_products) (Ok (window_dims axes ks ds)) TooLarge fits.1 in
+    let few = check-known (nat_le (size_of (window_dims axes ks ds) * size_of ks) (products_within widest)) (Ok (window_dims axes ks ds)) TooLarge fits.1 in
     record {
       legal = legal.0;
       ranks = eqb-true (length ks) (length axes) ranks.0;

@@ -1,16 +1,17 @@
 -- Result dims within bounds: they are those where dims go as far as they may.
-use Rattle.std.proofs.Common.{◌≡◌, ℕ, List, length, remove, Bool, true, false, ◌&&◌, nat_eq, nat_lt, nat_le, Ok, Err, IsOk, IfOk, []}
+use Rattle.std.proofs.Common.{◌≡◌, ℕ, ◌*◌, ◌≤◌, List, length, remove, Bool, true, false, ◌&&◌, nat_eq, nat_lt, nat_le, Ok, Err, IsOk, IfOk, []}
 use Rattle.std.proofs.Common.{if◌then◌else◌, refl, ap, sym, ◌∙◌, arith, inl, inr}
 use Rattle.std.specs.Cmp.Lexicographic.{pointwise}
 use Rattle.std.specs.Result.{result_unwrap_or}
 use Rattle.std.proofs.lemmas.Bool.{cases_Bool, and_parts, and_from, leb-true, le-leb}
 use Rattle.tensor_shape.specs.Index.{size_of}
-use Rattle.tensor_shape.specs.Legal.{highest_rank, widest, most_elements, bulk_of, are_legal, IsPossible}
+use Rattle.tensor_shape.specs.Legal.{highest_rank, widest, most_elements, text_elements, bulk_of, are_legal, IsPossible}
 use Rattle.tensor_shape.specs.declared.bounds.Bounds.{Bounds}
 use Rattle.tensor_terms.specs.Along.{replaced_dims}
 use Rattle.tensor_terms.specs.Contents.{Contents}
 use Rattle.tensor_terms.specs.Concatenation.{joined_dims}
-use Rattle.tensor_terms.specs.Contraction.{firsts, seconds, outer_dims, few_products}
+use Rattle.tensor_terms.specs.Contraction.{firsts, seconds, outer_dims, few_products, products_within, most_products, text_products}
+use Rattle.tensor_terms.specs.Convolution.{fit_along, window_dims}
 use Rattle.tensor_terms.specs.Movement.{none_is_zero, repeated_dims}
 use Rattle.tensor_terms.specs.Padding.{padded_dims}
 use Rattle.tensor_terms.specs.Reduction.{are_axes}
@@ -63,6 +64,24 @@ module _ (bounds : Bounds) (within : IsPossible bounds) where
         | inr illegal ↦ record { same = λ h. let bad = rw illegal at h in (cc) }
       ]
 
+  products-wider : products_within bounds ≤ most_products
+  products-wider =
+      elim (cases_Bool (nat_le bounds.elements text_elements)) [
+        | inl few ↦ rw few (omega arith)
+        | inr many ↦ rw many (omega arith)
+      ]
+
+  few_products-wider : (count : ℕ) (d : List ℕ) → Widens (few_products bounds count d) (few_products widest count d)
+  few_products-wider count d =
+      elim (cases_Bool (nat_le (size_of d * count) (products_within bounds))) [
+        | inl few ↦
+            let most : nat_le (size_of d * count) most_products ≡ true =
+            le-leb (size_of d * count) most_products
+            (omega (arith, leb-true (size_of d * count) (products_within bounds) few, products-wider)) in
+            record { same = λ h. rw (few, most) refl }
+        | inr many ↦ record { same = λ h. let bad = rw many at h in (cc) }
+      ]
+
   unary_dims-wider : (o : Unary) (d : List ℕ) → Widens (unary_dims bounds o d) (unary_dims widest o d)
   unary_dims-wider (each o) d = Widens-same _
   unary_dims-wider (constant v) d = Widens-same _
@@ -90,9 +109,12 @@ module _ (bounds : Bounds) (within : IsPossible bounds) where
   binary_dims-wider (contract pairs) d e =
       Widens-check (are_axes (length d) (firsts pairs) && are_axes (length e) (seconds pairs)) _ _ OutOfRange
       (Widens-check (pointwise nat_eq (dims_at (firsts pairs) d) (dims_at (seconds pairs) e)) _ _ ShapeMismatch
-      (Widens-one (few_products (size_of (dims_at (firsts pairs) d))) (few_products (size_of (dims_at (firsts pairs) d)))
-      _ _ (λ f. Widens-same _) (legal_dims-wider (outer_dims pairs d e))))
-  binary_dims-wider (convolve axes) d e = Widens-same _
+      (Widens-one (few_products bounds (size_of (dims_at (firsts pairs) d))) (few_products widest (size_of (dims_at (firsts pairs) d)))
+      _ _ (few_products-wider (size_of (dims_at (firsts pairs) d))) (legal_dims-wider (outer_dims pairs d e))))
+  binary_dims-wider (convolve axes) d e =
+      Widens-check (are_axes (length d) axes) _ _ OutOfRange
+      (Widens-check (nat_eq (length e) (length axes)) _ _ ShapeMismatch
+      (Widens-check (fit_along axes e d) _ _ OutOfRange (few_products-wider (size_of e) (window_dims axes e d))))
   binary_dims-wider (taking axis) d e =
       Widens-check (nat_lt axis (length d)) _ _ OutOfRange (legal_dims-wider (replaced_dims axis e d))
 

@@ -1,10 +1,11 @@
 -- Contractions: sums of products over paired axes.
 use Rattle.std.specs.Prelude.{ℕ, ℤ, pos, ◌+ℤ◌, ◌*ℤ◌, ◌*◌}
 use Rattle.std.specs.Prelude.{List, ◌++◌, length, map, take, drop}
-use Rattle.std.specs.Prelude.{nat_eq, nat_le, ◌&&◌, Ok}
+use Rattle.std.specs.Prelude.{nat_eq, nat_le, ◌&&◌, Ok, if◌then◌else◌}
 use Rattle.std.specs.Cmp.Lexicographic.{pointwise}
 use Rattle.std.specs.List.{fold}
 use Rattle.tensor_shape.specs.Index.{size_of}
+use Rattle.tensor_shape.specs.Legal.{text_elements}
 use Rattle.tensor_shape.specs.Wrap.{wrap}
 use Rattle.tensor_shape.specs.declared.bounds.Bounds.{Bounds}
 use Rattle.tensor_terms.specs.Reduction.{are_axes}
@@ -23,24 +24,35 @@ seconds pairs = map (λ pair. pair.1) pairs
 
 -- the most products that a contraction or a convolution may sum, over all values of its result
 abbrev pub most_products : ℕ
-most_products = 1073741824
+most_products = 1099511627776
+
+-- the most products in a request text
+abbrev pub text_products : ℕ
+text_products = 1073741824
+
+-- the most products within bounds: those in a request text, if dims may have no more elements than
+-- there
+abbrev pub products_within : Bounds → ℕ
+products_within bounds =
+    if nat_le bounds.elements text_elements then text_products else most_products
 
 -- the first operand's other dims, followed by the second operand's other dims
 abbrev pub outer_dims : List (ℕ × ℕ) → List ℕ → List ℕ → List ℕ
 outer_dims pairs ds es = other_dims (firsts pairs) ds ++ other_dims (seconds pairs) es
 
 -- result dims whose values are sums of `count` products each, or the fault that these are too many
-abbrev pub few_products : ℕ → List ℕ → Shaped
-few_products count ds = check (nat_le (size_of ds * count) most_products) TooLarge (Ok ds)
+-- for the bounds
+abbrev pub few_products : Bounds → ℕ → List ℕ → Shaped
+few_products bounds count ds =
+    check (nat_le (size_of ds * count) (products_within bounds)) TooLarge (Ok ds)
 
--- the result dims of a contraction within bounds, or the fault of the first check that fails. If
--- the operands and the result have at most 1,048,576 elements, the check of the products always
--- passes
+-- the result dims of a contraction within bounds, or the fault of the first check that fails. In a
+-- request text the check of the products always passes
 abbrev pub contracted_dims : Bounds → List (ℕ × ℕ) → List ℕ → List ℕ → Shaped
 contracted_dims bounds pairs ds es =
     check (are_axes (length ds) (firsts pairs) && are_axes (length es) (seconds pairs)) OutOfRange
     (check (pointwise nat_eq (dims_at (firsts pairs) ds) (dims_at (seconds pairs) es)) ShapeMismatch
-    (with_one (few_products (size_of (dims_at (firsts pairs) ds)))
+    (with_one (few_products bounds (size_of (dims_at (firsts pairs) ds)))
     (legal_dims bounds (outer_dims pairs ds es))))
 
 -- the value of a contraction at an index list: the whole-number sum, modulo 2^64, of the products

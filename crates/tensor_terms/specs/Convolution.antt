@@ -4,6 +4,7 @@ use Rattle.std.specs.Prelude.{slice_index, slice_set, nat_le, Bool, true, ◌&&�
 use Rattle.std.specs.List.{fold}
 use Rattle.tensor_shape.specs.Index.{size_of}
 use Rattle.tensor_shape.specs.Wrap.{wrap}
+use Rattle.tensor_shape.specs.declared.bounds.Bounds.{Bounds}
 use Rattle.tensor_terms.specs.Contraction.{few_products}
 use Rattle.tensor_terms.specs.Reduction.{are_axes}
 use Rattle.tensor_terms.specs.Shaped.{Shaped, check, check_lengths}
@@ -26,11 +27,12 @@ abbrev pub window_index : List ℕ → List ℕ → List ℕ → List ℕ
 window_index (x ∷ xs) (j ∷ js) is = slice_set (window_index xs js is) x (slice_index is x + j)
 window_index axes js is = is
 
--- the result dims of a convolution, or the fault of the first check that fails
-abbrev pub convolved_dims : List ℕ → List ℕ → List ℕ → Shaped
-convolved_dims axes ds ks =
+-- the result dims of a convolution within bounds, or the fault of the first check that fails
+abbrev pub convolved_dims : Bounds → List ℕ → List ℕ → List ℕ → Shaped
+convolved_dims bounds axes ds ks =
     check (are_axes (length ds) axes) OutOfRange (check_lengths ks axes
-    (check (fit_along axes ks ds) OutOfRange (few_products (size_of ks) (window_dims axes ks ds))))
+    (check (fit_along axes ks ds) OutOfRange
+    (few_products bounds (size_of ks) (window_dims axes ks ds))))
 
 -- the value of a convolution at an index list: the whole-number sum, modulo 2^64, of the products
 -- of the kernel's values and the operand's values under them

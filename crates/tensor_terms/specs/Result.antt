@@ -33,7 +33,7 @@ abbrev pub binary_dims : Bounds → Binary → List ℕ → List ℕ → Shaped
 binary_dims bounds (pairwise o) d e = equal_dims d e
 binary_dims bounds (concat axis) d e = concatenated_dims bounds axis d e
 binary_dims bounds (contract pairs) d e = contracted_dims bounds pairs d e
-binary_dims bounds (convolve axes) d e = convolved_dims axes d e
+binary_dims bounds (convolve axes) d e = convolved_dims bounds axes d e
 binary_dims bounds (taking axis) d e = taken_dims bounds axis d e
 
 -- the result dims of an operation on three tensors, or the fault of its first check that fails

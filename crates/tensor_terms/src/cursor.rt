@@ -210,7 +210,7 @@ fn convolved_at(axes: &[u64], a: &Expr, b: &Expr, inputs: &Inputs, place: u64) -
 {
     let dims = known_dims(a, inputs);
     let kernel = known_dims(b, inputs);
-    let window_index = convolved_dims(axes, &dims, &kernel).unwrap();
+    let window_index = convolved_dims(WIDEST, axes, &dims, &kernel).unwrap();
     let mut value = 0;
     for inner in 0..kernel.size() {
         let read = window_place(axes, &dims, &kernel, &window_index, inner, place);

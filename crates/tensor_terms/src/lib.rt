@@ -15,7 +15,7 @@ mod tensor;
 pub use cursor::Cursor;
 pub use dims::along_dims::{along_dims, taken_dims};
 pub use dims::concatenation_dims::concatenated_dims;
-pub use dims::contraction_dims::{contracted_dims, paired_axes};
+pub use dims::contraction_dims::{TEXT_PRODUCTS, contracted_dims, paired_axes};
 pub use dims::convolution_dims::convolved_dims;
 pub use dims::movement_dims::{extend, moved_dims, shuffled};
 pub use dims::reduction_dims::reduced_dims;

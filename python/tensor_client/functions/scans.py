@@ -132,7 +132,7 @@ def in_rows(scan: Scan, x: Expr, row: int) -> Expr:
 def row_length(length: int, lines: int, is_repeated: bool) -> int:
     """Returns the greatest length of a row, or 0 if no length fits. If lines are repeated over the pairs
     of two places of a row, there are few pairs, or as many as a tensor may have. For sums, there are no
-    more products than a contraction may have.
+    more products than a contraction of a text may have.
 
     >>> row_length(5_000, 1, False), row_length(9_000, 1, True), row_length(5_000, 99_999, True)
     (32, 8, 0)
@@ -142,7 +142,7 @@ def row_length(length: int, lines: int, is_repeated: bool) -> int:
         few = rules.FIRST_ELEMENTS // places
         row, most = OTHER_ROW, few if few > 1 else rules.MOST_ELEMENTS // places
     else:
-        row, most = SUM_ROW, rules.MOST_PRODUCTS // places
+        row, most = SUM_ROW, rules.FIRST_PRODUCTS // places
     while row > most or row >= length > 0:
         row //= 2
     return row if row > 1 else 0

@@ -3,6 +3,7 @@
 
 ghost use Rattle.std.specs.Prelude.{◌≡◌, Ok, IsOk, IfOk};
 ghost use Rattle.tensor_shape.specs.Index.{size_of};
+ghost use Rattle.tensor_shape.specs.Legal.{widest};
 ghost use Rattle.tensor_kernels.specs.Contracting.{contraction_count, contraction_value};
 ghost use Rattle.tensor_terms.specs.Convolution.{convolved, convolved_dims};
 ghost use Rattle.tensor_ops.specs.private.Meaning.{count_of, IsSound};
@@ -14,7 +15,7 @@ use crate::operands::rows::one_row;
 use crate::operands::windows::windows_under_kernel;
 use std::alloc::{AllocError, Global};
 use tensor_kernels::Contraction;
-use tensor_shape::Dims;
+use tensor_shape::{Dims, WIDEST};
 use tensor_terms::convolved_dims;
 
 /// Returns a convolution along axes, made ready, and its result dims. The second operand is the
@@ -29,15 +30,15 @@ pub(crate) fn convolution_of<'a>(
     requires kernel { IsSound kernel.lowered }
     requires count_operand { count_of operand.lowered ≡ size_of operand.dims }
     requires count_kernel { count_of kernel.lowered ≡ size_of kernel.dims }
-    requires dims { IsOk (convolved_dims axes.now operand.dims kernel.dims) }
+    requires dims { IsOk (convolved_dims widest axes.now operand.dims kernel.dims) }
     ensures dims { IfOk result (λ r.
-        convolved_dims axes.now operand.entry.dims kernel.entry.dims ≡ Ok r.1) }
+        convolved_dims widest axes.now operand.entry.dims kernel.entry.dims ≡ Ok r.1) }
     ensures values { IfOk result (λ r. HasValues (contraction_count r.0) (contraction_value r.0)
         r.1 (convolved axes.now kernel.entry.dims
         (meaning_at operand.entry.lowered operand.entry.dims)
         (meaning_at kernel.entry.lowered kernel.entry.dims))) }
 {
-    let dims = convolved_dims(axes, &operand.dims, &kernel.dims).unwrap();
+    let dims = convolved_dims(WIDEST, axes, &operand.dims, &kernel.dims).unwrap();
     let values = operand.lowered.into_values(alloc, &operand.dims)?;
     let factors = kernel.lowered.into_values(alloc, &kernel.dims)?;
     let runs = windows_under_kernel(alloc, axes, &operand.dims, values, &kernel.dims, &dims)?;
@@ -56,9 +57,9 @@ pub(crate) fn lower_convolution<'a>(
     requires kernel { IsSound kernel.lowered }
     requires count_operand { count_of operand.lowered ≡ size_of operand.dims }
     requires count_kernel { count_of kernel.lowered ≡ size_of kernel.dims }
-    requires dims { IsOk (convolved_dims axes.now operand.dims kernel.dims) }
+    requires dims { IsOk (convolved_dims widest axes.now operand.dims kernel.dims) }
     ensures dims { IfOk result (λ r.
-        convolved_dims axes.now operand.entry.dims kernel.entry.dims ≡ Ok r.dims) }
+        convolved_dims widest axes.now operand.entry.dims kernel.entry.dims ≡ Ok r.dims) }
     ensures lowered { IfOk result (λ r. Gives r.lowered r.dims
         (convolved axes.now kernel.entry.dims
         (meaning_at operand.entry.lowered operand.entry.dims)

@@ -6,6 +6,7 @@ ghost use Rattle.std.specs.Prelude.{◌≡◌, length};
 ghost use Rattle.std.specs.Prelude.{IfOk, Ok};
 ghost use Rattle.std.specs.Cow.{cow_slice_items};
 ghost use Rattle.tensor_shape.specs.Index.{size_of};
+ghost use Rattle.tensor_shape.specs.Legal.{widest};
 ghost use Rattle.tensor_terms.specs.Convolution.{convolved_dims};
 ghost use Rattle.tensor_ops.specs.private.FirstRun.{run_axes, run_width};
 ghost use Rattle.tensor_ops.specs.private.Windows.{IsUnderKernel};
@@ -28,7 +29,7 @@ pub(crate) fn windows_under_kernel<'a>(
     kernel: &Dims,
     window_index: &Dims,
 ) -> Result<Windows<'a>, AllocError>
-    requires dims { convolved_dims axes.now dims.now kernel.now ≡ Ok window_index.now }
+    requires dims { convolved_dims widest axes.now dims.now kernel.now ≡ Ok window_index.now }
     requires values { length (cow_slice_items values) ≡ size_of dims.now }
     ensures { IfOk result (λ runs.
         IsUnderKernel (window_count runs) (window_length runs) (window_value runs)

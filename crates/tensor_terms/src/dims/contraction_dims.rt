@@ -1,19 +1,21 @@
-//! The result dims of contractions. A change touches `specs/Contraction`; fault_reasons has the
-//! limit again.
+//! The result dims of contractions. A change touches `specs/Contraction`, which has the limits again.
 
 ghost use Rattle.std.specs.Prelude.{◌≡◌, ◌≤◌, ◌++◌, ◌↔◌, length, IsSome, IfSome};
 ghost use Rattle.tensor_shape.specs.Legal.{highest_rank, IsPossible};
-ghost use Rattle.tensor_terms.specs.Contraction.{firsts, seconds, contracted_dims};
+ghost use Rattle.tensor_terms.specs.Contraction.{firsts, seconds, contracted_dims, products_within};
 ghost use Rattle.tensor_terms.specs.Shaped.{legal_dims};
 
 use crate::dims::movement_dims::{extend, legal_dims};
 use crate::dims::reduction_dims::are_axes;
 use crate::fault::ExprFault;
 use crate::index::index_parts::{dims_at, other_dims};
-use tensor_shape::{Bounds, Dims, PerAxis};
+use tensor_shape::{Bounds, Dims, PerAxis, TEXT_ELEMENTS};
 
 /// The most products that a contraction or a convolution may sum, over all values of its result.
-pub(crate) const MOST_PRODUCTS: u64 = 1_073_741_824;
+const MAX_PRODUCTS: u64 = 1_099_511_627_776;
+
+/// The most products that a contraction or a convolution in a request text may sum.
+pub const TEXT_PRODUCTS: u64 = 1_073_741_824;
 
 /// Returns the result dims of a contraction over pairs of axes within `bounds`, or the fault of the
 /// first check that fails.
@@ -43,10 +45,22 @@ pub fn contracted_dims(
         &other_dims(firsts, first),
         &other_dims(seconds, second),
     )?;
-    if outer.size() * paired.size() > MOST_PRODUCTS {
+    if outer.size() * paired.size() > products_within(bounds) {
         return Err(ExprFault::TooLarge);
     }
     Ok(outer)
+}
+
+/// Returns the most products that a contraction or a convolution may sum within `bounds`:
+/// [`TEXT_PRODUCTS`] within those of a request text.
+pub(crate) fn products_within(bounds: Bounds) -> u64
+    ensures { result ≡ products_within bounds }
+{
+    if bounds.elements <= TEXT_ELEMENTS {
+        TEXT_PRODUCTS
+    } else {
+        MAX_PRODUCTS
+    }
 }
 
 /// Returns the first dims followed by the second dims, if they are within `bounds`.

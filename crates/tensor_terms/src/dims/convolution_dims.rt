@@ -4,15 +4,21 @@ ghost use Rattle.std.specs.Prelude.{◌≡◌, length, true};
 ghost use Rattle.tensor_terms.specs.Convolution.{convolved_dims, fit_along, window_dims};
 ghost use Rattle.tensor_terms.specs.Reduction.{are_axes};
 
-use crate::dims::contraction_dims::MOST_PRODUCTS;
+use crate::dims::contraction_dims::products_within;
 use crate::dims::movement_dims::{extend, legal_dims};
 use crate::dims::reduction_dims::are_axes;
 use crate::fault::ExprFault;
-use tensor_shape::{Dims, PerAxis, WIDEST};
+use tensor_shape::{Bounds, Dims, PerAxis, WIDEST};
 
-/// Returns the result dims of a convolution along axes, or the fault of the first check that fails.
-pub fn convolved_dims(axes: &[u64], dims: &Dims, kernel: &Dims) -> Result<Dims, ExprFault>
-    ensures { result ≡ convolved_dims axes.now dims.now kernel.now }
+/// Returns the result dims of a convolution along axes within `bounds`, or the fault of the first
+/// check that fails.
+pub fn convolved_dims(
+    bounds: Bounds,
+    axes: &[u64],
+    dims: &Dims,
+    kernel: &Dims,
+) -> Result<Dims, ExprFault>
+    ensures { result ≡ convolved_dims bounds axes.now dims.now kernel.now }
 {
     if !are_axes(dims.rank() as u64, axes) {
         return Err(ExprFault::OutOfRange);
@@ -24,7 +30,7 @@ pub fn convolved_dims(axes: &[u64], dims: &Dims, kernel: &Dims) -> Result<Dims, 
         return Err(ExprFault::OutOfRange);
     }
     let window_index = window_dims(axes, kernel.as_slice(), dims);
-    if window_index.size() * kernel.size() > MOST_PRODUCTS {
+    if window_index.size() * kernel.size() > products_within(bounds) {
         return Err(ExprFault::TooLarge);
     }
     Ok(window_index)

@@ -137,7 +137,7 @@ fn binary_dims(
         Binary::Pairwise(_) => equal_dims(first, second),
         Binary::Concat(axis) => concatenated_dims(bounds, axis, first, second),
         Binary::Contract(pairs) => contracted_dims(bounds, pairs, first, second),
-        Binary::Convolve(axes) => convolved_dims(axes, first, second),
+        Binary::Convolve(axes) => convolved_dims(bounds, axes, first, second),
         Binary::Take(axis) => taken_dims(bounds, axis, first, second),
     }
 }

@@ -2,7 +2,7 @@
 
 ghost use Rattle.std.specs.Prelude.{◌≡◌, ◌<◌, ◌≤◌, ◌+◌, ◌^◌, ℕ, length, slice_index, Ok};
 ghost use Rattle.tensor_shape.specs.Index.{size_of, place, index_of};
-ghost use Rattle.tensor_shape.specs.Legal.{highest_rank};
+ghost use Rattle.tensor_shape.specs.Legal.{highest_rank, widest};
 ghost use Rattle.tensor_terms.specs.Convolution.{convolved_dims, window_index};
 
 use crate::dims::movement_dims::extend;
@@ -18,7 +18,7 @@ pub(crate) fn window_place(
     inner: u64,
     outer: u64,
 ) -> u64
-    requires dims { convolved_dims axes.now dims.now kernel.now ≡ Ok result_dims.now }
+    requires dims { convolved_dims widest axes.now dims.now kernel.now ≡ Ok result_dims.now }
     requires inner { inner < size_of kernel.now }
     requires outer { outer < size_of result_dims.now }
     ensures value { result ≡ place dims.now
