@@ -6,7 +6,8 @@ use Rattle.std.proofs.lemmas.List.FromFn.{length-map-range_with_len, get_or-map-
 use Rattle.tensor_shape.specs.Index.{size_of, IsIndexOf, place, index_of}
 use Rattle.tensor_shape.specs.Legal.{widest, most_elements}
 use Rattle.tensor_shape.proofs.Places.{place-below-size_of, index_of-place, place-index_of, IsIndexOf-index_of}
-use Rattle.tensor_views.specs.Axes.{axes_from, by_steps, moved_axes, moved_start}
+use Rattle.tensor_views.specs.Axes.{axes_from, by_steps, moved_start}
+use Rattle.tensor_views.specs.Moved.{IsMovedView}
 use Rattle.tensor_terms.specs.Contents.{Contents, value_at}
 use Rattle.tensor_ops.specs.private.Meaning.{meaning, count_of, IsSound, IsListOf}
 use Rattle.tensor_terms.specs.Movement.{moved, moved_dims}
@@ -22,7 +23,7 @@ use Rattle.tensor_ops.specs.declared.lowered.Lowered.TheVariants.{Borrowed}
 use Rattle.tensor_views.specs.declared.axis.Axis.{Axis}
 use Rattle.tensor_views.proofs.AxisLists.{are_along-from, by_steps-from}
 use Rattle.tensor_terms.proofs.Known.{reshape-known}
-use Rattle.tensor_views.proofs.Moves.{view_size-moved, reached-moved, index-moved, moved_start-below}
+use Rattle.tensor_views.proofs.Moves.{index-moved, moved_start-below}
 
 -- what is lowered gives its own values
 pub gives-itself : (lowered : Lowered) (ds : List ℕ) → IsSound lowered → count_of lowered ≡ size_of ds
@@ -70,25 +71,21 @@ view-whole lowered ds sound count few = record {
 
 -- a view over such an operand
 pub gives-view : (m : Movement) (inner outer whole : Lowered) (start from : ℕ) (axes along : List Axis) (ds rs : List ℕ)
-    → IsView inner start axes outer ds → moved_dims widest m ds ≡ Ok rs → from ≡ moved_start m start axes → along ≡ moved_axes m axes
+    → IsView inner start axes outer ds → moved_dims widest m ds ≡ Ok rs → IsMovedView m ds rs start axes from along
     → ((p : ℕ) → meaning whole p ≡ meaning inner (reached from along p)) → count_of whole ≡ view_size along
     → (IsSound inner → count_of inner ≤ most_elements
     → ((p : ℕ) → p < view_size along → reached from along p < count_of inner) → IsSound whole)
     → Gives whole rs (λ index. meaning_at outer ds (moved m ds index))
-gives-view m inner outer whole start from axes along ds rs view dims is_from is_along means count sound =
-    let size : view_size along ≡ size_of rs = ap view_size is_along ∙ view_size-moved axes ds rs view.along m dims in
-    let at : (p : ℕ) → p < size_of rs → reached from along p ≡ start + by_steps axes (moved m ds (index_of rs p)) =
-    λ p below. ap (λ s. reached s along p) is_from ∙ ap (λ l. reached (moved_start m start axes) l p) is_along
-    ∙ reached-moved axes ds rs view.along m start p dims below in
+gives-view m inner outer whole start from axes along ds rs view dims seen means count sound =
     let within : (p : ℕ) → p < size_of rs → IsIndexOf ds (moved m ds (index_of rs p)) =
     λ p below. index-moved axes ds rs view.along m (index_of rs p) dims (IsIndexOf-index_of rs p below) in
     record {
       sound = sound view.sound view.few
           (λ p below.
-          let inside : p < size_of rs = omega arith in
-          omega (arith, at p inside, view.inside (moved m ds (index_of rs p)) (within p inside)));
-      count = count ∙ size;
-      means = λ p below. means p ∙ ap (meaning inner) (at p below) ∙ view.means (moved m ds (index_of rs p)) (within p below);
+          let inside : p < size_of rs = omega (arith, seen.size) in
+          omega (arith, seen.reaches p inside, view.inside (moved m ds (index_of rs p)) (within p inside)));
+      count = count ∙ seen.size;
+      means = λ p below. means p ∙ ap (meaning inner) (seen.reaches p below) ∙ view.means (moved m ds (index_of rs p)) (within p below);
     }
 
 -- where it starts is within bounds

@@ -35,13 +35,13 @@ scaled ss is = zip_with (λ s i. i * s) ss is
 
 -- the index list of an operand of dims ds that a movement reads for an index list of the result
 abbrev pub moved : Movement → List ℕ → List ℕ → List ℕ
-moved (broadcast counts) ds is = zip_with (λ d i. i % d) ds is
-moved (slice offsets extents) ds is = zip_with (λ o i. i + o) offsets is
+moved (broadcast counts) ds is = wrapped ds is
+moved (slice offsets extents) ds is = offset_by offsets is
 moved (shuffle order) ds is = scattered order is (map (λ d. 0) ds)
 moved (reshape sizes) ds is = index_of ds (place sizes is)
 moved (chip offset axis) ds is = insert is axis offset
 moved (reverse flags) ds is = mirrored flags ds is
-moved (stride steps) ds is = zip_with (λ s i. i * s) steps is
+moved (stride steps) ds is = scaled steps is
 
 -- each dimension times its count
 abbrev pub repeated_dims : List ℕ → List ℕ → List ℕ
@@ -78,12 +78,12 @@ has_all_below (suc n) ss = is_among n ss && has_all_below n ss
 -- the result dims of a movement within bounds, or the fault of the first check that fails
 abbrev pub moved_dims : Bounds → Movement → List ℕ → Shaped
 moved_dims bounds (broadcast counts) ds = check_lengths counts ds
-    (check (none_is_zero counts) OutOfRange (legal_dims bounds (zip_with (λ d c. d * c) ds counts)))
+    (check (none_is_zero counts) OutOfRange (legal_dims bounds (repeated_dims ds counts)))
 moved_dims bounds (slice offsets extents) ds =
     check (nat_eq (length offsets) (length ds) && nat_eq (length extents) (length ds)) ShapeMismatch
     (check (fit_within ds offsets extents) OutOfRange (Ok extents))
 moved_dims bounds (shuffle order) ds = check_lengths order ds
-    (check (has_all_below (length ds) order) OutOfRange (Ok (map (λ s. slice_index ds s) order)))
+    (check (has_all_below (length ds) order) OutOfRange (Ok (shuffled_dims ds order)))
 moved_dims bounds (reshape sizes) ds =
     with_one (λ es. check (nat_eq (size_of es) (size_of ds)) ShapeMismatch (Ok es))
     (legal_dims bounds sizes)
@@ -92,4 +92,4 @@ moved_dims bounds (chip offset axis) ds =
     (Ok (remove ds axis))
 moved_dims bounds (reverse flags) ds = check_lengths flags ds (Ok ds)
 moved_dims bounds (stride steps) ds = check_lengths steps ds
-    (check (none_is_zero steps) OutOfRange (Ok (zip_with (λ d s. div_ceil d s) ds steps)))
+    (check (none_is_zero steps) OutOfRange (Ok (strided_dims ds steps)))

@@ -9,7 +9,8 @@ use Rattle.tensor_shape.specs.Index.{size_of, place_by, index_of}
 use Rattle.tensor_shape.specs.Legal.{bulk_of}
 use Rattle.tensor_shape.proofs.Sizes.{one-le-bulk_of}
 use Rattle.tensor_views.specs.Forward.{forward, no_axis}
-use Rattle.tensor_views.specs.Axes.{axes_from, are_along, by_steps, repeated_axes, cut_axes, reversed_axes, strided_axes}
+use Rattle.tensor_views.specs.Axes.{axes_from, are_along, by_steps}
+use Rattle.tensor_views.specs.private.MovedAxes.{repeated_axes, cut_axes, reversed_axes, strided_axes}
 use Rattle.tensor_views.specs.View.{reached, view_size}
 use Rattle.tensor_views.specs.declared.axis.Axis.{Axis}
 

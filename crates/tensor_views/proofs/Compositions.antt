@@ -3,7 +3,8 @@ use Rattle.std.proofs.Common.{◌≡◌, ℕ, zero, suc, ◌+◌, ◌-◌, ◌*�
 use Rattle.std.proofs.Common.{refl, ap, sym, ◌∙◌, arith, inl, inr}
 use Rattle.std.proofs.lemmas.Bool.{cases_Bool, and_parts, ltb-true, ltb-false, eqb-true}
 use Rattle.std.proofs.Math.Nat.{mod-add-div, mod-lt, div-le_self, mul-le-mul_left, mul-le-mul_right}
-use Rattle.tensor_views.specs.Composing.{span, IsSameView, opened, left_axis, traced_axis, goes_along, traced_by, passed, extent_along}
+use Rattle.tensor_views.specs.Composing.{span}
+use Rattle.tensor_views.specs.private.Tracing.{IsSameView, opened, left_axis, traced_axis, goes_along, traced_by, passed, extent_along}
 use Rattle.tensor_views.specs.View.{view_size, reached, steps_to}
 use Rattle.tensor_views.specs.declared.composing.Trace.{Trace}
 use Rattle.tensor_views.specs.declared.composing.Trace.TheVariants.{Open, Traced}

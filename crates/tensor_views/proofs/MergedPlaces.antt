@@ -3,7 +3,8 @@ use Rattle.std.proofs.Common.{◌≡◌, ℕ, ◌+◌, List, [], ◌∷◌, ◌+
 use Rattle.std.proofs.Common.{sym, ◌∙◌, arith}
 use Rattle.tensor_shape.specs.Index.{IsIndexOf, place}
 use Rattle.tensor_shape.proofs.Places.{length-IsIndexOf}
-use Rattle.tensor_views.specs.Axes.{axes_from, are_along, by_steps, shuffled_axes}
+use Rattle.tensor_views.specs.Axes.{axes_from, are_along, by_steps}
+use Rattle.tensor_views.specs.private.MovedAxes.{shuffled_axes}
 use Rattle.tensor_terms.specs.Movement.{scattered}
 use Rattle.tensor_terms.specs.Reduction.{are_axes}
 use Rattle.tensor_terms.specs.Merged.{others, dims_at, merged}

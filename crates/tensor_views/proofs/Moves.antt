@@ -10,7 +10,9 @@ use Rattle.tensor_shape.specs.Legal.{widest}
 use Rattle.tensor_shape.specs.Index.{size_of, IsIndexOf, index_of, place}
 use Rattle.tensor_shape.proofs.Places.{place-index_of, IsIndexOf-index_of, div-below}
 use Rattle.tensor_views.specs.Forward.{no_axis}
-use Rattle.tensor_views.specs.Axes.{are_along, by_steps, HasRank, repeated_axes, cut_axes, reversed_axes, shuffled_axes, strided_axes, moved_axes, moved_start}
+use Rattle.tensor_views.specs.Moved.{IsMovedView}
+use Rattle.tensor_views.specs.Axes.{are_along, by_steps, HasRank, moved_start}
+use Rattle.tensor_views.specs.private.MovedAxes.{repeated_axes, cut_axes, reversed_axes, shuffled_axes, strided_axes, moved_axes}
 use Rattle.tensor_terms.specs.Movement.{wrapped, offset_by, scattered, mirrored, scaled, moved, moved_dims, repeated_dims, shuffled_dims, strided_dims, none_is_zero, is_among}
 use Rattle.tensor_terms.specs.Shaped.{Shaped}
 use Rattle.tensor_terms.specs.Term.{Movement, broadcast, slice, shuffle, reshape, chip, reverse, stride}
@@ -211,7 +213,7 @@ one_result r known rs first second = (cc)
 
 -- any movement's view
 module _ (axes : List Axis) (ds rs : List ℕ) (along : are_along axes ds ≡ true) where
-  pub view_size-moved : (m : Movement) → moved_dims widest m ds ≡ Ok rs → view_size (moved_axes m axes) ≡ size_of rs
+  view_size-moved : (m : Movement) → moved_dims widest m ds ≡ Ok rs → view_size (moved_axes m axes) ≡ size_of rs
   view_size-moved (broadcast counts) h =
       let known = broadcast-known counts ds (has_result (moved_dims widest (broadcast counts) ds) rs h) in
       view_size-broadcast axes ds counts along ∙ ap size_of (one_result (moved_dims widest (broadcast counts) ds) _ rs known.dims h)
@@ -237,7 +239,7 @@ module _ (axes : List Axis) (ds rs : List ℕ) (along : are_along axes ds ≡ tr
       let known = stride-known steps ds (has_result (moved_dims widest (stride steps) ds) rs h) in
       view_size-stride axes ds steps along known.long ∙ ap size_of (one_result (moved_dims widest (stride steps) ds) _ rs known.dims h)
 
-  pub reached-moved : (m : Movement) (start p : ℕ) → moved_dims widest m ds ≡ Ok rs → p < size_of rs
+  reached-moved : (m : Movement) (start p : ℕ) → moved_dims widest m ds ≡ Ok rs → p < size_of rs
       → reached (moved_start m start axes) (moved_axes m axes) p ≡ start + by_steps axes (moved m ds (index_of rs p))
   reached-moved (broadcast counts) start p h below =
       let known = broadcast-known counts ds (has_result (moved_dims widest (broadcast counts) ds) rs h) in
@@ -286,6 +288,14 @@ module _ (axes : List Axis) (ds rs : List ℕ) (along : are_along axes ds ≡ tr
       reached-start start (strided_axes axes steps) p
       ∙ ap (λ n. start + n) (reached-stride axes ds steps p along known.long known.some inside)
       ∙ ap (λ r. start + by_steps axes (scaled steps (index_of r p))) same
+
+  -- a view with this start and these axes is the view of the movement
+  pub is_moved : (m : Movement) (start from : ℕ) (along : List Axis) → moved_dims widest m ds ≡ Ok rs
+      → from ≡ moved_start m start axes → along ≡ moved_axes m axes → IsMovedView m ds rs start axes from along
+  is_moved m start from along h is_from is_along = rw (is_from, is_along) (record {
+    size = view_size-moved m h;
+    reaches = λ p below. reached-moved m start p h below;
+  })
 
   -- its arguments are for the axes
   pub has_rank-moved : (m : Movement) → moved_dims widest m ds ≡ Ok rs → HasRank m (length axes)

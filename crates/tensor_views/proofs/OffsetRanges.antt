@@ -11,7 +11,8 @@ use Rattle.std.proofs.Math.Seq.{take-suc}
 use Rattle.tensor_shape.specs.Index.{size_of, place, place_by, index_of}
 use Rattle.tensor_shape.proofs.Places.{place-cons, place_by-scaled}
 use Rattle.tensor_views.specs.Forward.{forward, no_axis}
-use Rattle.tensor_views.specs.Axes.{axes_from, by_steps, shuffled_axes}
+use Rattle.tensor_views.specs.Axes.{axes_from, by_steps}
+use Rattle.tensor_views.specs.private.MovedAxes.{shuffled_axes}
 use Rattle.tensor_views.specs.Offsets.{offset_of}
 use Rattle.tensor_terms.specs.Reduction.{are_axes}
 use Rattle.tensor_terms.specs.Merged.{dims_at}

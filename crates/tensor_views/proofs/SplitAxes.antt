@@ -5,7 +5,8 @@ use Rattle.std.proofs.Math.Seq.{drop-cons}
 use Rattle.std.proofs.lemmas.Bool.{cases_Bool, and_parts, ltb-true, eqb-true}
 use Rattle.std.proofs.Math.Nat.{div-div-eq-div-mul, mod-add-div, mod-lt, mul-le-mul_left, mul_comm}
 use Rattle.tensor_views.specs.Forward.{forward}
-use Rattle.tensor_views.specs.Composing.{span, is_split, split_axes, IsSameView}
+use Rattle.tensor_views.specs.Composing.{span}
+use Rattle.tensor_views.specs.private.Tracing.{is_split, split_axes, IsSameView}
 use Rattle.tensor_views.specs.View.{view_size, reached, steps_to}
 use Rattle.tensor_views.specs.declared.axis.Axis.{Axis}
 use Rattle.tensor_values.proofs.Factors.{some_size}

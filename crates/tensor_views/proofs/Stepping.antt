@@ -6,7 +6,8 @@ use Rattle.tensor_shape.specs.Index.{size_of, IsIndexOf, strides_from, place_by,
 use Rattle.tensor_shape.specs.Legal.{bulk_of}
 use Rattle.tensor_shape.proofs.Places.{IsIndexOf-index_of}
 use Rattle.tensor_views.specs.Forward.{no_axis}
-use Rattle.tensor_views.specs.Axes.{axes_from, by_steps, shuffled_axes}
+use Rattle.tensor_views.specs.Axes.{axes_from, by_steps}
+use Rattle.tensor_views.specs.private.MovedAxes.{shuffled_axes}
 use Rattle.tensor_terms.specs.Convolution.{window_index}
 use Rattle.tensor_terms.specs.Movement.{shuffled_dims}
 use Rattle.tensor_views.specs.Offsets.{offset_of}

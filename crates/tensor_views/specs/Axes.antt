@@ -1,7 +1,6 @@
--- The axes of a view, and the view of a movement over it.
-use Rattle.std.specs.Prelude.{◌≡◌, ℕ, ◌+◌, ◌*◌, ◌<◌, List, [], ◌∷◌, length, map}
-use Rattle.std.specs.Prelude.{slice_index, slice_index_or, remove, min}
-use Rattle.std.specs.Int.{div_ceil}
+-- The axes of a view, and where the view of a movement over it starts.
+use Rattle.std.specs.Prelude.{◌≡◌, ℕ, ◌+◌, ◌*◌, ◌<◌, List, [], ◌∷◌, length}
+use Rattle.std.specs.Prelude.{slice_index, slice_index_or}
 use Rattle.std.specs.Prelude.{Bool, true, false, not, ◌&&◌, nat_eq}
 use Rattle.tensor_terms.specs.Term.{Movement, broadcast, slice, shuffle, reshape, chip, reverse}
 use Rattle.tensor_terms.specs.Term.{stride}
@@ -26,36 +25,6 @@ by_steps [] is = 0
 by_steps (a ∷ rest) [] = 0
 by_steps (a ∷ rest) (i ∷ is) = i * a.step + by_steps rest is
 
--- each axis, followed by an axis of step 0 that repeats it
-abbrev pub repeated_axes : List Axis → List ℕ → List Axis
-repeated_axes [] cs = []
-repeated_axes (a ∷ rest) [] = []
-repeated_axes (a ∷ rest) (c ∷ cs) = a ∷ forward c 0 ∷ repeated_axes rest cs
-
--- the axes with other sizes
-abbrev pub cut_axes : List Axis → List ℕ → List Axis
-cut_axes [] es = []
-cut_axes (a ∷ rest) [] = []
-cut_axes (a ∷ rest) (e ∷ es) = forward e a.step ∷ cut_axes rest es
-
--- the axes with the direction down where the flag is set
-abbrev pub reversed_axes : List Axis → List Bool → List Axis
-reversed_axes [] fs = []
-reversed_axes (a ∷ rest) [] = []
-reversed_axes (a ∷ rest) (f ∷ fs) =
-    record { size = a.size; step = a.step; reversed = f } ∷ reversed_axes rest fs
-
--- the axes that read every step-th place; if an axis is shorter than its step, only the first place
-abbrev pub strided_axes : List Axis → List ℕ → List Axis
-strided_axes [] ss = []
-strided_axes (a ∷ rest) [] = []
-strided_axes (a ∷ rest) (s ∷ ss) =
-    forward (div_ceil a.size s) (a.step * min s a.size) ∷ strided_axes rest ss
-
--- the axes in another order
-abbrev pub shuffled_axes : List Axis → List ℕ → List Axis
-shuffled_axes axes order = map (λ s. slice_index_or axes s no_axis) order
-
 -- the arguments of a movement are for n axes
 abbrev pub HasRank : Movement → ℕ → Type 0
 HasRank (broadcast counts) n = length counts ≡ n
@@ -70,16 +39,6 @@ HasRank (stride steps) n = (length steps ≡ n) × ((k : ℕ) → k < n → 0 < 
 abbrev pub AreShort : List Axis → ℕ → Type 0
 AreShort axes n = (k : ℕ) → k < length axes
     → (slice_index_or axes k no_axis).step * (slice_index_or axes k no_axis).size < n
-
--- the axes of the view of a movement
-abbrev pub moved_axes : Movement → List Axis → List Axis
-moved_axes (broadcast counts) axes = repeated_axes axes counts
-moved_axes (slice offsets extents) axes = cut_axes axes extents
-moved_axes (shuffle order) axes = shuffled_axes axes order
-moved_axes (reshape sizes) axes = axes
-moved_axes (chip offset axis) axes = remove axes axis
-moved_axes (reverse flags) axes = reversed_axes axes flags
-moved_axes (stride steps) axes = strided_axes axes steps
 
 -- the start of the view of a movement, given the start and the axes of the operand's view
 abbrev pub moved_start : Movement → ℕ → List Axis → ℕ

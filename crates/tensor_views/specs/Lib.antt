@@ -1,8 +1,10 @@
 pub mod Axes
 pub mod Composing
+pub mod Moved
 pub mod Offsets
 pub mod Places
 pub mod Reading
 pub mod Forward
 pub mod Stepped
 pub mod View
+pub mod private

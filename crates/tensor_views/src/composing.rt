@@ -4,9 +4,10 @@
 
 ghost use Rattle.std.specs.Prelude.{◌≡◌, ◌<◌, ◌+◌, ◌-◌, ◌*◌, ◌^◌, [], ◌∷◌, map};
 ghost use Rattle.std.specs.Prelude.{IfOk, IfSome, if◌then◌else◌};
-ghost use Rattle.tensor_views.specs.Composing.{span, is_split, split_axes, IsSameView, IsComposition};
-ghost use Rattle.tensor_views.specs.Composing.{goes_along, traced_by, beyond, passed, extent_along};
-ghost use Rattle.tensor_views.specs.Composing.{opened, traced_axis};
+ghost use Rattle.tensor_views.specs.Composing.{span, IsComposition};
+ghost use Rattle.tensor_views.specs.private.Tracing.{is_split, split_axes, IsSameView};
+ghost use Rattle.tensor_views.specs.private.Tracing.{goes_along, traced_by, beyond, passed, extent_along};
+ghost use Rattle.tensor_views.specs.private.Tracing.{opened, traced_axis};
 ghost use Rattle.tensor_views.specs.View.{view_size};
 
 use crate::axis::Axis;

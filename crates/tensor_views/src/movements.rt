@@ -1,16 +1,19 @@
 //! Views of whole dims, and the views of movements over them. A new movement needs its cases in
-//! `specs/Axes` and lemmas in `proofs/Moves`; the definition of what it reads is in tensor_terms.
+//! `specs/Axes` and `specs/private/MovedAxes`, and lemmas in `proofs/Moves`. What it reads is defined
+//! in tensor_terms.
 
-ghost use Rattle.std.specs.Prelude.{◌≡◌, ◌<◌, ◌≤◌, ◌+◌, ◌^◌, ℕ, length, slice_index, vec_len};
-ghost use Rattle.std.specs.Prelude.{IfOk, OnOk};
+ghost use Rattle.std.specs.Prelude.{◌≡◌, ◌<◌, ◌≤◌, ◌+◌, ◌^◌, ℕ, List, length, slice_index, vec_len};
+ghost use Rattle.std.specs.Prelude.{true, Ok, IfOk, OnOk};
 ghost use Rattle.tensor_shape.specs.Index.{size_of};
-ghost use Rattle.tensor_shape.specs.Legal.{most_elements};
-ghost use Rattle.tensor_views.specs.Forward.{forward};
-ghost use Rattle.tensor_views.specs.Axes.{axes_from, by_steps};
-ghost use Rattle.tensor_views.specs.Axes.{HasRank, AreShort, moved_axes, moved_start};
-ghost use Rattle.tensor_views.specs.Axes.{repeated_axes, cut_axes, shuffled_axes, reversed_axes};
-ghost use Rattle.tensor_views.specs.Axes.{strided_axes};
+ghost use Rattle.tensor_shape.specs.Legal.{most_elements, widest};
+ghost use Rattle.tensor_terms.specs.Movement.{moved_dims};
 ghost use Rattle.tensor_terms.specs.Tree.{movement_at};
+ghost use Rattle.tensor_views.specs.Forward.{forward};
+ghost use Rattle.tensor_views.specs.Axes.{axes_from, are_along, by_steps};
+ghost use Rattle.tensor_views.specs.Axes.{HasRank, AreShort, moved_start};
+ghost use Rattle.tensor_views.specs.Moved.{IsMovedView};
+ghost use Rattle.tensor_views.specs.private.MovedAxes.{moved_axes, repeated_axes, cut_axes};
+ghost use Rattle.tensor_views.specs.private.MovedAxes.{shuffled_axes, reversed_axes, strided_axes};
 
 use crate::axis::Axis;
 use crate::view::{View, ViewRef};
@@ -32,16 +35,16 @@ impl View {
         })
     }
 
-    /// Returns the view of a movement over this view, all of whose axes must go up, as in
+    /// Returns the view of a movement over this view. All axes of this view must go up, as in
     /// [`View::of`]. Otherwise the result isn't a view of the movement.
     pub fn moved(self, alloc: Global, movement: Movement<'_>) -> Result<View, AllocError>
         requires rank { HasRank (movement_at movement) (vec_len self.axes) }
         requires fits { moved_start (movement_at movement) self.start self.axes.items < 2 ^ 32 }
         requires short { AreShort self.axes.items (2 ^ 32) }
-        ensures start { IfOk result (λ v.
-            v.start ≡ moved_start (movement_at movement.entry) self.start self.axes.items) }
-        ensures axes { IfOk result (λ v.
-            v.axes.items ≡ moved_axes (movement_at movement.entry) self.axes.items) }
+        ensures { IfOk result (λ v. (ds rs : List ℕ) → are_along self.axes.items ds ≡ true
+            → moved_dims widest (movement_at movement.entry) ds ≡ Ok rs
+            → IsMovedView (movement_at movement.entry) ds rs self.start self.axes.items
+            v.start v.axes.items) }
     {
         Ok(View {
             start: moved_start(movement, self.as_ref()),

@@ -1,6 +1,7 @@
 use Rattle.std.proofs.Common.{◌≡◌, ◌<◌, pos, length, vec_len, refl, ap, subst, sym, ◌∙◌, arith}
 use Rattle.tensor_shape.specs.Index.{size_of}
-use Rattle.tensor_views.specs.Axes.{HasRank, axes_from, moved_axes, moved_start}
+use Rattle.tensor_views.specs.Axes.{HasRank, axes_from}
+use Rattle.tensor_views.specs.Moved.{IsMovedView}
 use Rattle.tensor_terms.specs.Movement.{moved}
 use Rattle.tensor_ops.specs.private.Lowering.{IsView, meaning_at}
 use Rattle.tensor_terms.specs.Tree.{movement_at}
@@ -57,14 +58,14 @@ returns c =
     let view = c.in_ok-view.view in
     let of_dims = c.in_ok-whole.ensures in
     let is_rs = sym c.moved_dims.ensures ∙ c.unwrap-dims.ensures in
-    let start : view.start ≡ moved_start m 0 (axes_from 1 ds) = rw (of_dims.start, of_dims.axes) at c.in_ok-view.ensures.start in
-    let axes : view.axes.items ≡ moved_axes m (axes_from 1 ds) = rw of_dims.axes at c.in_ok-view.ensures.axes in
     let is : IsView boxed.value 0 (axes_from 1 ds) inner ds =
     rw c.in_ok-lowered.ensures.ok
     (view-whole inner ds c.in_ok-inner.ensures.sound c.in_ok-inner.ensures.count of_dims.few) in
     let whole = View view boxed in
+    let moved_view : IsMovedView m ds rs 0 (axes_from 1 ds) view.start view.axes.items =
+    rw (of_dims.start, of_dims.axes) at c.in_ok-view.ensures ds rs is.along is_rs in
     let seen = gives-view m boxed.value inner whole 0 view.start (axes_from 1 ds) view.axes.items ds rs is is_rs
-    start axes (λ p. refl) refl (λ sound few reaches. (sound, (few, reaches))) in
+    moved_view (λ p. refl) refl (λ sound few reaches. (sound, (few, reaches))) in
     record {
       dims = is_rs;
       lowered = gives-other whole rs (λ index. meaning_at inner ds (moved m ds index))

@@ -1,7 +1,7 @@
 use Rattle.std.proofs.Common.{◌∙◌, arith}
 use Rattle.std.proofs.Math.Nat.{mul-le-mul_right}
 use Rattle.tensor_views.specs.Forward.{no_axis}
-use Rattle.tensor_views.specs.Composing.{passed}
+use Rattle.tensor_views.specs.private.Tracing.{passed}
 use Rattle.tensor_views.specs.declared.composing.Trace.TheVariants.{Open}
 use Rattle.tensor_views.proofs.Compositions.{extent_along-one}
 use Rattle.tensor_views.proofs.Mapped.{mapped-more, mapped-length}

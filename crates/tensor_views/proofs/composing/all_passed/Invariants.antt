@@ -1,5 +1,5 @@
 use Rattle.std.proofs.Common.{◌≡◌, map, take, length, vec_capacity}
-use Rattle.tensor_views.specs.Composing.{passed}
+use Rattle.tensor_views.specs.private.Tracing.{passed}
 use Rattle.tensor_views.proofs.composing.all_passed.Given as goal
 
 abbrev pub invariant-loop-trace : goal.invariant-loop-trace

@@ -1,6 +1,6 @@
 use Rattle.std.proofs.Common.{refl, ◌∙◌, arith}
 use Rattle.tensor_views.specs.Forward.{no_axis}
-use Rattle.tensor_views.specs.Composing.{opened}
+use Rattle.tensor_views.specs.private.Tracing.{opened}
 use Rattle.tensor_views.proofs.Mapped.{mapped-more, mapped-length}
 use Rattle.tensor_views.proofs.composing.open.Goals as goal
 

@@ -1,5 +1,5 @@
 use Rattle.std.proofs.Common.{◌≡◌, map, take, length, vec_capacity}
-use Rattle.tensor_views.specs.Composing.{opened}
+use Rattle.tensor_views.specs.private.Tracing.{opened}
 use Rattle.tensor_views.proofs.composing.open.Given as goal
 
 abbrev pub invariant-loop-axis : goal.invariant-loop-axis

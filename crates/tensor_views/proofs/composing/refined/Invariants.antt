@@ -1,6 +1,6 @@
 -- The stride times what is left is within the limit, and the axes reach the same places.
 use Rattle.std.proofs.Common.{◌*◌, ◌<◌, ◌^◌, drop}
-use Rattle.tensor_views.specs.Composing.{IsSameView}
+use Rattle.tensor_views.specs.private.Tracing.{IsSameView}
 use Rattle.tensor_views.specs.View.{view_size}
 use Rattle.tensor_views.proofs.composing.refined.Given as goal
 

@@ -1,6 +1,6 @@
 use Rattle.std.proofs.Common.{◌∙◌, arith}
 use Rattle.tensor_views.specs.Forward.{no_axis}
-use Rattle.tensor_views.specs.Composing.{traced_axis}
+use Rattle.tensor_views.specs.private.Tracing.{traced_axis}
 use Rattle.tensor_views.specs.declared.composing.Trace.TheVariants.{Open}
 use Rattle.tensor_views.proofs.Mapped.{mapped-more, mapped-length}
 use Rattle.tensor_views.proofs.composing.traced_axes.Goals as goal

@@ -1,5 +1,5 @@
 use Rattle.std.proofs.Common.{◌≡◌, map, take, length, vec_capacity}
-use Rattle.tensor_views.specs.Composing.{traced_axis}
+use Rattle.tensor_views.specs.private.Tracing.{traced_axis}
 use Rattle.tensor_views.proofs.composing.traced_axes.Given as goal
 
 abbrev pub invariant-loop-trace : goal.invariant-loop-trace

@@ -3,7 +3,8 @@ use Rattle.std.proofs.Common.{sym, ◌∙◌, arith}
 use Rattle.std.proofs.Math.Nat.{mod-le, mul-le-mul_right}
 use Rattle.std.proofs.lemmas.List.{drop_all}
 use Rattle.tensor_views.specs.Forward.{no_axis}
-use Rattle.tensor_views.specs.Composing.{span, left_axis, traced_axis, opened, extent_along, passed}
+use Rattle.tensor_views.specs.Composing.{span}
+use Rattle.tensor_views.specs.private.Tracing.{left_axis, traced_axis, opened, extent_along, passed}
 use Rattle.tensor_views.specs.View.{reached}
 use Rattle.tensor_views.proofs.Compositions.{left-opened, size-opened, composed-begins, composed-goes}
 use Rattle.tensor_views.proofs.Compositions.{left-within, step-within, first_step, first_step-most}

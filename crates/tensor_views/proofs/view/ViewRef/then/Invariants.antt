@@ -1,6 +1,7 @@
 -- What the traces and the axes that are left reach together; and what is left is within bounds.
 use Rattle.std.proofs.Common.{◌≡◌, ℕ, ◌+◌, ◌<◌, ◌^◌, map, drop}
-use Rattle.tensor_views.specs.Composing.{span, left_axis, traced_axis}
+use Rattle.tensor_views.specs.Composing.{span}
+use Rattle.tensor_views.specs.private.Tracing.{left_axis, traced_axis}
 use Rattle.tensor_views.specs.View.{view_size, reached}
 use Rattle.tensor_views.proofs.view.ViewRef.then.Given as goal
 
