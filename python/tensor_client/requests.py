@@ -110,8 +110,8 @@ def nested(text: str) -> int:
 
 class Text:
     """The text of an expression and of its bindings, as it is put together. Inputs are named in the
-    order in which they appear. The version is the lowest that has all operations and dims. What is left
-    of the tree is kept in a list, so that a tree can be of any depth.
+    order in which they appear. The version is the lowest that has all operations, dims and numbers of
+    products. What is left of the tree is kept in a list, so that a tree can be of any depth.
 
     With `looks` the text ends at the first operation that appears a second time.
     """
@@ -280,9 +280,9 @@ def whole_text(found: Text, settings: Settings, inputs: Iterable[str]) -> str:
 
 
 def request(expr: Any, workers: int = 1, block: int = 4096, version: Optional[int] = None) -> str:
-    """Returns the text that asks for an expression. Its version is the lowest that has the operations,
-    the dims and this number of workers. A part that is used twice appears twice in the text, and other
-    operations replace operations along one axis. Raises BadVersion and TooLong.
+    """Returns the text that asks for an expression. Its version is the lowest that has the operations, the
+    dims, the number of products and this number of workers. A part that is used twice appears twice in
+    the text, and other operations replace operations along one axis. Raises BadVersion and TooLong.
 
     >>> print(request(tensor(5)))
     {"version":1,"workers":1,"block":4096,"inputs":{"x0":{"dims":[],"data":[5]}},"expr":"x0"}
