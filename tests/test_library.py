@@ -115,6 +115,7 @@ LARGE = [
     ('["select",["lt","a","b"],"a","b"]', 1_048_576, 0, LINE, LINE),
     ('["sum","a",[0]]', 1, 0, LINE, ONE),
     ('["sum","a",[0]]', 1_024, 0, SQUARE, ONE),
+    ('["sum","a",[0]]', 8_388_608, 0, [2, 8_388_608], ONE),
     ('["shuffle","a",[2,0,1]]', 1_048_576, 0, [64, 128, 128], ONE),
     ('["contract","a","b",[[1,0]]]', 262_144, 262_144, [512, 512], [512, 512]),
     ('["convolve","a","b",[0,1]]', 1_009 * 1_009, 0, SQUARE, [16, 16]),
@@ -163,7 +164,7 @@ def large_frame(expr, dims):
     count, source = sum(map(math.prod, dims)), random.Random(expr)
     drawn = [source.randint(LEAST, GREATEST) for _ in range(1_009)]
     values = (drawn * (count // len(drawn) + 1))[:count]
-    return header(inputs, expr, 3 if LONG in dims else 2), values, ""
+    return header(inputs, expr, 3 if count > 2 * math.prod(LINE) else 2), values, ""
 
 
 def lengths_of(text, values):

@@ -11,5 +11,6 @@ pub mod Reduced
 pub mod Root
 pub mod Runs
 pub mod Sinking
+pub mod Starts
 pub mod Windows
 pub mod ValueRuns

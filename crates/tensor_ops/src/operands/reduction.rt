@@ -7,7 +7,8 @@ ghost use Rattle.std.specs.Cow.{cow_slice_items};
 ghost use Rattle.std.specs.List.{range_with_len};
 ghost use Rattle.tensor_shape.specs.Index.{size_of, place, index_of};
 ghost use Rattle.tensor_shape.specs.Legal.{most_elements};
-ghost use Rattle.tensor_loops.specs.Folds.{offset_at, start_at};
+ghost use Rattle.tensor_loops.specs.Folds.{offset_at};
+ghost use Rattle.tensor_ops.specs.private.Starts.{start_at};
 ghost use Rattle.tensor_values.specs.Values.{value_in};
 
 use std::alloc::{AllocError, Allocator, Global};
@@ -23,8 +24,8 @@ use tensor_views::offsets;
 ///
 /// The operand is seen as rows: the values along the axes before the first dropped one, which lie
 /// side by side. The rows along the first dropped axis and the dropped axes right after it lie one
-/// after the other, in a run. Values are combined in the order of the places of the dropped index
-/// lists.
+/// after the other, in a run. The runs along the kept axes right after these lie one after the
+/// other, in a group. Values are combined in the order of the places of the dropped index lists.
 #[derive(Drop)]
 pub(crate) struct Reduction<'a> {
     reducer: Reducer,
@@ -33,20 +34,25 @@ pub(crate) struct Reduction<'a> {
     width: usize,
     /// The number of rows of a run.
     run: usize,
-    /// For each row of the result, the place of the first row that is combined into it. There is
-    /// one for each index list of the kept axes after the first run.
-    rows: Vec<usize>,
+    /// The number of runs of a group.
+    group: usize,
+    /// For each group, its first place. There is one for each index list of the kept axes after the
+    /// axes of a group.
+    starts: Vec<usize>,
     /// For each run of a row of the result, how far it begins behind the first one. There is one
     /// for each index list of the dropped axes after the first run.
     offsets: Vec<usize>,
     ghost few: { length (cow_slice_items values) ≤ most_elements },
     ghost narrow: { width ≤ most_elements },
-    ghost rows_low: { (k : ℕ) → k < length rows.items
-        → slice_index rows.items k < most_elements },
+    ghost near: { group * (width * run) ≤ most_elements },
+    ghost few_starts: { length starts.items ≤ most_elements },
+    ghost starts_low: { (k : ℕ) → k < length starts.items
+        → slice_index starts.items k < most_elements },
     ghost offsets_low: { (k : ℕ) → k < length offsets.items
         → slice_index offsets.items k < most_elements },
-    ghost inside: { (p q : ℕ) → p < length rows.items * width → q < length offsets.items * run
-        → start_at rows.items width p + offset_at offsets.items width run q
+    ghost inside: { (p q : ℕ) → p < length starts.items * group * width
+        → q < length offsets.items * run
+        → start_at starts.items group width run p + offset_at offsets.items width run q
         < length (cow_slice_items values) },
 }
 
@@ -56,9 +62,9 @@ impl<'a> Reduction<'a> {
     ghost use Rattle.tensor_terms.specs.Merged.{other_dims};
 
     /// Returns a reduction of the values of a tensor over axes. Axes past the rank are ignored.
-    /// Takes 8 bytes for each index list of the kept axes after the first run, and for each of the
-    /// dropped axes there. This is at most 8 bytes for each element of the operand, and mostly far
-    /// less.
+    /// Takes 8 bytes for each index list of the dropped axes after the first run, and for each of
+    /// the kept axes after the axes of a group. If the dropped axes lie next to each other, these
+    /// are 16 bytes together.
     pub(crate) fn of(
         alloc: Global,
         reducer: Reducer,
@@ -78,14 +84,16 @@ impl<'a> Reduction<'a> {
         let rank = sizes.len() as u64;
         let first = next_among(axes, 0, rank);
         let after = next_other(axes, first, rank);
-        let rows = offsets(alloc, dims, others(axes, after, rank).as_slice())?;
+        let further = next_among(axes, after, rank);
+        let starts = offsets(alloc, dims, others(axes, further, rank).as_slice())?;
         let offsets = offsets(alloc, dims, among(axes, after, rank).as_slice())?;
         Ok(Reduction {
             reducer,
             values,
             width: span(sizes, 0, first as usize),
             run: span(sizes, first as usize, after as usize),
-            rows,
+            group: span(sizes, after as usize, further as usize),
+            starts,
             offsets,
         })
     }
@@ -153,18 +161,35 @@ impl<'a> Reduction<'a> {
         }
         let values = self.values.as_slice();
         let offsets = self.offsets.as_slice();
-        let mut row = first / self.width;
+        let step = self.width * self.run;
+        let mut group = first / self.width / self.group;
+        let mut row = first / self.width % self.group;
         let mut index = first % self.width;
         let mut done = 0;
         'rows: while done < size {
             let count = (self.width - index).min(size - done);
             let part = &mut target[done..done + count];
-            let start = self.rows[row] + index;
+            let start = self.starts[group] + row * step + index;
             combine_runs(reducer, part, values, start, self.width, self.run, offsets);
             done += count;
-            row += 1;
+            (group, row) = next_row(group, row, self.group);
             index = 0;
         }
+    }
+}
+
+/// Returns the group of the next row, and its number in this group. A group has `count` rows.
+#[inline(always)]
+fn next_row(group: usize, row: usize, count: usize) -> (usize, usize)
+    requires few { group < most_elements }
+    requires within { row < count }
+    ensures within { result.1 < count }
+    ensures next { result.0 * count + result.1 ≡ group * count + row + 1 }
+{
+    if row + 1 < count {
+        (group, row + 1)
+    } else {
+        (group + 1, 0)
     }
 }
 

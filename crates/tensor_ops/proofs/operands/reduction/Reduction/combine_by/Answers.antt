@@ -1,35 +1,61 @@
 use Rattle.std.proofs.Common.{◌≡◌, ℕ, ℤ, pos, ◌+◌, ◌-◌, ◌*◌, ◌<◌, ◌≤◌, List, length, get_or, take}
-use Rattle.std.proofs.Common.{drop, ap, sym, ◌∙◌, inl, inr, arith}
+use Rattle.std.proofs.Common.{drop, refl, ap, sym, ◌∙◌, inl, inr, arith}
 use Rattle.std.specs.Cow.{cow_slice_items}
 use Rattle.std.proofs.lemmas.Bool.{cases_lt}
 use Rattle.std.proofs.lemmas.List.{get_or_default}
 use Rattle.std.proofs.lemmas.List.Edits.{get_or-between}
+use Rattle.std.proofs.lemmas.Nat.{column_fits, div-mul-add, mod-mul-add}
 use Rattle.std.proofs.Math.Nat.{lt_of_mul-lt-mul_right}
 use borrow.Rule.Slice.PartMut.{put_mid}
-use Rattle.tensor_loops.specs.Folds.{folded, offset_at, start_at}
+use Rattle.tensor_loops.specs.Folds.{folded, offset_at}
 use Rattle.tensor_values.specs.Values.{value_in}
 use Rattle.tensor_ops.specs.private.Reduced.{combined_at}
+use Rattle.tensor_ops.specs.private.Starts.{start_at}
 use Rattle.tensor_values.specs.declared.reducer.Reducer.{Reducer}
 use Rattle.tensor_ops.specs.declared.operands.reduction.Reduction.{Reduction}
-use Rattle.tensor_loops.proofs.Folding.{start_at-row}
+use Rattle.tensor_loops.proofs.Folding.{offset_at-run}
 use Rattle.tensor_kernels.proofs.Parts.{length-part, length-put_mid, get_or-before, get_or-within}
 use Rattle.tensor_kernels.proofs.Parts.{get_or-after}
 use Rattle.tensor_ops.proofs.operands.reduction.Reduction.combine_by.Goals as goal
 
+swapped : (m n : ℕ) → m * n ≡ n * m
+swapped m n = grind arith
+
 next : (row width : ℕ) → (row + 1) * width ≡ row * width + width
 next row width = grind arith
 
--- a place of the result has a row
-row-within : (row width index p count : ℕ) → p ≡ row * width + index → p < count * width
-    → row < count
-row-within row width index p count at below =
-    lt_of_mul-lt-mul_right width {m = row} {n = count} (omega arith)
+-- a place of the result has a row, and the row has a group
+group-within : (group rows row width index p count : ℕ) → p ≡ (group * rows + row) * width + index
+    → p < count * rows * width → group < count
+group-within group rows row width index p count at below =
+    let in_rows : group * rows + row < count * rows =
+    lt_of_mul-lt-mul_right width {m = group * rows + row} {n = count * rows} (omega arith) in
+    lt_of_mul-lt-mul_right rows {m = group} {n = count} (omega (arith, in_rows))
+
+-- where a row begins, by its group and its number in the group
+start_at-row : (starts : List ℕ) (rows width run group row index p : ℕ) → row < rows
+    → index < width → p ≡ (group * rows + row) * width + index
+    → start_at starts rows width run p ≡ get_or starts group 0 + row * (width * run) + index
+start_at-row starts rows width run group row index p in_group in_row at =
+    let place : start_at starts rows width run p
+    ≡ offset_at starts (width * run) rows (group * rows + row) + index =
+    rw at (rw (
+      mod-mul-add (group * rows + row) width index in_row,
+      div-mul-add (group * rows + row) width index in_row,
+    ) refl) in
+    omega (arith, place, offset_at-run starts (width * run) rows group row in_group)
+
+-- the rows of a group begin no further from its start than the group spans
+row-near : (row rows step : ℕ) → row < rows → row * step ≤ rows * step
+row-near row rows step below =
+    let fits : step * row + step ≤ step * rows = column_fits step row step rows below (omega arith) in
+    omega (arith, fits, swapped step row, swapped step rows)
 
 -- what is combined with a value, by the tables that are lent
 combined-part : (s : Reduction) (r : Reducer) (x y : ℤ) (p start : ℕ) (values : List ℤ)
     (offsets : List ℕ)
     → x ≡ y → values ≡ cow_slice_items s.values → offsets ≡ s.offsets.items
-    → start ≡ start_at s.rows.items s.width p
+    → start ≡ start_at s.starts.items s.group s.width s.run p
     → folded r x (λ q. value_in values (start + offset_at offsets s.width s.run q))
     (length offsets * s.run) ≡ combined_at s r y p
 combined-part s r x y p start values offsets same lent_values lent_offsets begins =
@@ -48,23 +74,70 @@ pub overflow_add-start : goal.overflow_add-start
 overflow_add-start c =
     let s = c.args.self.now in
     let at = c.rows.invariant.here c.rows-test.true in
-    let within : c.rows.row < length s.rows.items =
-    row-within c.rows.row s.width c.rows.index (c.args.first + c.rows.done) (length s.rows.items) at
-    (omega (arith, c.requires)) in
-    let read : c.index.result.now ≡ get_or s.rows.items c.rows.row 0 =
-    c.index.ensures ∙ get_or_default s.rows.items c.rows.row c.index.result.now 0 within in
-    omega (arith, read, s.rows_low c.rows.row within, s.narrow, c.rows.invariant.index)
+    let within : c.rows.group < length s.starts.items =
+    group-within c.rows.group s.group c.rows.row s.width c.rows.index (c.args.first + c.rows.done)
+    (length s.starts.items) at (omega (arith, c.requires)) in
+    let read : c.index.result.now ≡ get_or s.starts.items c.rows.group 0 =
+    c.index.ensures ∙ get_or_default s.starts.items c.rows.group c.index.result.now 0 within in
+    let near = row-near c.rows.row s.group (s.width * s.run) c.rows.invariant.row in
+    omega (
+      arith,
+      read,
+      near,
+      s.near,
+      s.starts_low c.rows.group within,
+      s.narrow,
+      c.rows.invariant.index,
+    )
+
+pub overflow_add-start-in-rows : goal.overflow_add-start-in-rows
+overflow_add-start-in-rows c =
+    let s = c.args.self.now in
+    let at = c.rows.invariant.here c.rows-test.true in
+    let within : c.rows.group < length s.starts.items =
+    group-within c.rows.group s.group c.rows.row s.width c.rows.index (c.args.first + c.rows.done)
+    (length s.starts.items) at (omega (arith, c.requires)) in
+    let read : c.index.result.now ≡ get_or s.starts.items c.rows.group 0 =
+    c.index.ensures ∙ get_or_default s.starts.items c.rows.group c.index.result.now 0 within in
+    let near = row-near c.rows.row s.group (s.width * s.run) c.rows.invariant.row in
+    omega (
+      arith,
+      read,
+      near,
+      s.near,
+      s.starts_low c.rows.group within,
+      s.narrow,
+      c.rows.invariant.index,
+    )
+
+pub next_row-requires-clause-few : goal.next_row-requires-clause-few
+next_row-requires-clause-few c =
+    let s = c.args.self.now in
+    let at = c.rows.invariant.here c.rows-test.true in
+    let within : c.rows.group < length s.starts.items =
+    group-within c.rows.group s.group c.rows.row s.width c.rows.index (c.args.first + c.rows.done)
+    (length s.starts.items) at (omega (arith, c.requires)) in
+    omega (arith, within, s.few_starts)
 
 pub combine_runs-requires-clause-start : goal.combine_runs-requires-clause-start
 combine_runs-requires-clause-start c =
     let s = c.args.self.now in
     let at = c.rows.invariant.here c.rows-test.true in
-    let within : c.rows.row < length s.rows.items =
-    row-within c.rows.row s.width c.rows.index (c.args.first + c.rows.done) (length s.rows.items) at
-    (omega (arith, c.requires)) in
-    let read : c.index.result.now ≡ get_or s.rows.items c.rows.row 0 =
-    c.index.ensures ∙ get_or_default s.rows.items c.rows.row c.index.result.now 0 within in
-    omega (arith, read, s.rows_low c.rows.row within, s.narrow, c.rows.invariant.index)
+    let within : c.rows.group < length s.starts.items =
+    group-within c.rows.group s.group c.rows.row s.width c.rows.index (c.args.first + c.rows.done)
+    (length s.starts.items) at (omega (arith, c.requires)) in
+    let read : c.index.result.now ≡ get_or s.starts.items c.rows.group 0 =
+    c.index.ensures ∙ get_or_default s.starts.items c.rows.group c.index.result.now 0 within in
+    let near = row-near c.rows.row s.group (s.width * s.run) c.rows.invariant.row in
+    omega (
+      arith,
+      read,
+      near,
+      s.near,
+      s.starts_low c.rows.group within,
+      s.narrow,
+      c.rows.invariant.index,
+    )
 
 pub combine_runs-requires-clause-inside : goal.combine_runs-requires-clause-inside
 combine_runs-requires-clause-inside c = λ i q in_part in_runs.
@@ -72,11 +145,11 @@ combine_runs-requires-clause-inside c = λ i q in_part in_runs.
     let done = c.rows.done in
     let count = c.min-count.result in
     let at = c.rows.invariant.here c.rows-test.true in
-    let within : c.rows.row < length s.rows.items =
-    row-within c.rows.row s.width c.rows.index (c.args.first + done) (length s.rows.items) at
-    (omega (arith, c.requires)) in
-    let read : c.index.result.now ≡ get_or s.rows.items c.rows.row 0 =
-    c.index.ensures ∙ get_or_default s.rows.items c.rows.row c.index.result.now 0 within in
+    let within : c.rows.group < length s.starts.items =
+    group-within c.rows.group s.group c.rows.row s.width c.rows.index (c.args.first + done)
+    (length s.starts.items) at (omega (arith, c.requires)) in
+    let read : c.index.result.now ≡ get_or s.starts.items c.rows.group 0 =
+    c.index.ensures ∙ get_or_default s.starts.items c.rows.group c.index.result.now 0 within in
     let long = length-part done count c.rows.target (omega (arith, c.rows.invariant.long)) in
     let in_count : i < count = omega arith in
     let values_long : length c.as_slice-values.result.now ≡ length (cow_slice_items s.values) =
@@ -87,8 +160,9 @@ combine_runs-requires-clause-inside c = λ i q in_part in_runs.
     let runs : length c.as_slice-offsets.result.now * s.run ≡ length s.offsets.items * s.run =
     ap (λ l. length l * s.run) c.as_slice-offsets.ensures.value in
     let inside = s.inside (c.args.first + done + i) q (omega (arith, c.requires)) (omega arith) in
-    let start = start_at-row s.rows.items s.width c.rows.row (c.rows.index + i)
-    (c.args.first + done + i) (omega arith) (omega arith) in
+    let start = start_at-row s.starts.items s.group s.width s.run c.rows.group c.rows.row
+    (c.rows.index + i) (c.args.first + done + i) c.rows.invariant.row (omega arith)
+    (omega arith) in
     omega (arith, read, inside, start, offset, values_long)
 
 pub rows-preserved : goal.rows-preserved
@@ -100,11 +174,11 @@ rows-preserved c =
     let part = c.combine_runs.new.row in
     let target = c.rows.target in
     let at = inv.here c.rows-test.true in
-    let within : c.rows.row < length s.rows.items =
-    row-within c.rows.row s.width c.rows.index (c.args.first + done) (length s.rows.items) at
-    (omega (arith, c.requires)) in
-    let read : c.index.result.now ≡ get_or s.rows.items c.rows.row 0 =
-    c.index.ensures ∙ get_or_default s.rows.items c.rows.row c.index.result.now 0 within in
+    let within : c.rows.group < length s.starts.items =
+    group-within c.rows.group s.group c.rows.row s.width c.rows.index (c.args.first + done)
+    (length s.starts.items) at (omega (arith, c.requires)) in
+    let read : c.index.result.now ≡ get_or s.starts.items c.rows.group 0 =
+    c.index.ensures ∙ get_or_default s.starts.items c.rows.group c.index.result.now 0 within in
     let room : done ≤ length target = omega (arith, inv.long) in
     let ends : done + (done + count - done) ≤ length target = omega (arith, inv.long) in
     let part_long : length (take (done + count - done) (drop done target)) ≡ count =
@@ -114,7 +188,14 @@ rows-preserved c =
       long = length-put_mid done (done + count - done) target part room long ends ∙ inv.long;
       below = omega arith;
       index = omega (arith, inv.index);
-      here = λ more. omega (arith, at, next c.rows.row s.width);
+      row = c.next_row.ensures.within;
+      here = λ more.
+          omega (
+            arith,
+            at,
+            ap (λ r. r * s.width) c.next_row.ensures.next,
+            next (c.rows.group * s.group + c.rows.row) s.width,
+          );
       each = λ j below.
           elim (cases_lt j done) [
             | inl before ↦ get_or-before done (done + count - done) target part room j before
@@ -127,13 +208,14 @@ rows-preserved c =
                 ≡ value_in c.args.target.now j =
                 get_or-between target done (done + count) i (pos 0) (omega arith)
                 ∙ ap (value_in target) here ∙ inv.rest j after in
-                let start = start_at-row s.rows.items s.width c.rows.row (c.rows.index + i)
-                (c.args.first + j) (omega arith) (omega arith) in
+                let start = start_at-row s.starts.items s.group s.width s.run c.rows.group
+                c.rows.row (c.rows.index + i) (c.args.first + j) inv.row (omega arith)
+                (omega arith) in
                 ap (value_in (put_mid done (done + count - done) target part)) (sym here)
                 ∙ get_or-within done (done + count - done) target part room i (omega arith)
                 ∙ c.combine_runs.ensures.each i (omega arith)
                 ∙ combined-part s c.args.reducer _ (value_in c.args.target.now j) (c.args.first + j)
-                (c.index.result.now + c.rows.index + i)
+                (c.index.result.now + c.rows.row * (s.width * s.run) + c.rows.index + i)
                 c.as_slice-values.result.now c.as_slice-offsets.result.now old
                 c.as_slice-values.ensures.value c.as_slice-offsets.ensures.value
                 (omega (arith, start, read))

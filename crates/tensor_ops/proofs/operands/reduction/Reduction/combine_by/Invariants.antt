@@ -9,7 +9,9 @@ invariant-rows l = record {
   long : length l.target ≡ l.size;
   below : l.done ≤ l.size;
   index : l.index < l.self.width;
-  here : l.done < l.size → l.first + l.done ≡ l.row * l.self.width + l.index;
+  row : l.row < l.self.group;
+  here : l.done < l.size
+      → l.first + l.done ≡ (l.group * l.self.group + l.row) * l.self.width + l.index;
   each : (j : ℕ) → j < l.done → value_in l.target j ≡ combined_at l.self l.reducer
       (value_in l.initial.target j) (l.first + j);
   rest : (j : ℕ) → l.done ≤ j → value_in l.target j ≡ value_in l.initial.target j;
