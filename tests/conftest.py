@@ -7,7 +7,7 @@ import signal
 
 import pytest
 
-from hostile import COMPILERS, PROGRAMS, Refusals
+from hostile import COMPILERS, PROGRAMS, TOP, Refusals, output
 
 # How many seconds a test may take, and how much of a comparison is shown.
 MOST_SECONDS, MOST_SHOWN = 1_800, 2_000
@@ -92,3 +92,14 @@ def refusals(compiler, tmp_path_factory):
 def kit():
     """The command `rt` of the kit."""
     return shutil.which("rt") or pytest.skip("the command rt of the kit isn't on PATH")
+
+
+@pytest.fixture(scope="session")
+def rust(tmp_path_factory):
+    """Where the example in Rust and the caller are built."""
+    room = tmp_path_factory.mktemp("rust")
+    if not shutil.which("cargo"):
+        pytest.skip("no cargo (Debian's cargo)")
+    words = ["cargo", "build", "--release", "--quiet", "--offline", "--target-dir", room]
+    output(*words, cwd=os.path.join(TOP, "examples", "rust"))
+    return room / "release"

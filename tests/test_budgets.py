@@ -134,6 +134,12 @@ def test_private_definitions_are_not_cited():
     assert not past(0, {it: private_citations(it) for it in fitting(*CITING)})
 
 
+def test_edits_of_a_crate_have_names_of_their_own():
+    """The output of tools/edits names an edit by its crate and its name."""
+    names = collections.Counter((it.split("/")[1], name_of(it)) for it in fitting("crates/*.edit"))
+    assert names and not past(1, names)
+
+
 def test_first_lines_say_what_a_file_is():
     assert not [it for it in files() if not has_head(it)]
 

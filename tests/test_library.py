@@ -1,5 +1,4 @@
-"""Tests of the library from C, C++, Rust and Python: it answers a frame as the programs answer its
-text.
+"""Tests of the library from C, Rust and Python: it answers a frame as the programs answer its text.
 
 The frames come from the texts of crates/request_cases and tests/cases/version_3.cases, and from
 drawn texts, which the reference of tests/fuzzing answers. OWN has more frames: values at the ends
@@ -10,26 +9,24 @@ are drawn.
 tests/support/library.c also computes each answer in parts, and runs its plan, whole, cut and
 spoilt. It does so on eight threads, with each request for memory refused, and under valgrind.
 tests/support/stack.c measures the stack of each call.
-test_calls.py has the calls that only Python makes. tests/support/built.cpp and the example in Rust print
-the headers that the builders make.
+test_calls.py has the calls that only Python makes, and library/test_built.py the builders of expressions
+and the examples in C++ and Rust.
 """
 
 import json
 import math
-import os
 import random
 import re
 import shutil
 import struct
-import subprocess
 
 import pytest
 
 from calling import ARCHIVE, MOST, Library, header
 from framing import GREATEST, LEAST, NoFrame, frame, framed, is_frames_own, parts
-from fuzzing import grammar, operations, reference, sharing, spoiling
+from fuzzing import grammar, reference, sharing, spoiling
 from fuzzing.rules import FRAME_VERSIONS
-from hostile import SUPPORT, TOP
+from hostile import SUPPORT, TOP, output
 from request_cases import PATHS, VERSION_3, cases_of
 
 WRAPPED = "-Wl,--wrap=malloc,--wrap=realloc,--wrap=free"
@@ -42,18 +39,9 @@ MOST_KIB_MORE = 2_048
 MOST_BESIDE = 2**20
 # One of so many short frames is run under valgrind; a short frame has at most these bytes.
 EVERY, FEW_BYTES = 24, 4_000
-SECONDS = 600
 # The largest parts of TENSOR_STACK that a call may take: for one operation, and for a deep expression.
 OF_ONE, OF_DEEP = 0.1, 0.75
 NO_ARRAYS = 2**64 - 1
-# What the builders in C++ and Rust make, and the inputs: their dims and values.
-BUILT = os.path.join(TOP, "tests", "cases", "built.cases")
-BUILT_OVER = {
-    "a": ([2, 3], [7, -7, LEAST, GREATEST, 0, 3]),
-    "b": ([2, 3], [2, 0, -1, 1, 5, 7]),
-    "c": ([3, 2], [1, -2, 3, -4, 5, -6]),
-}
-EIGEN = "/usr/include/eigen3"
 TWO, NAMES = '"a":{"dims":[2]},"b":{"dims":[2]}', '"B":{"dims":[]},"a":{"dims":[]},"":{"dims":[]}'
 DATA = '"a":{"dims":[2],"data":[1,2]}'
 ENDS = [LEAST, GREATEST, -1, 1]
@@ -216,14 +204,6 @@ def few(frames):
     return [it for it in frames if len(it[0]) + 8 * len(it[1]) <= FEW_BYTES][::EVERY]
 
 
-def output(*words, **how):
-    """The standard output of a command, which ends with status 0 and an empty standard error."""
-    words = list(map(str, words))
-    ran = subprocess.run(words, capture_output=True, text=True, timeout=SECONDS, check=False, **how)
-    assert (ran.returncode, ran.stderr) == (0, "")
-    return ran.stdout
-
-
 def assert_answers(got, frames):
     lines = got.split("\n")[:-1]
     assert len(lines) == len(frames)
@@ -321,81 +301,5 @@ def test_c_under_valgrind(caller, room, few):
     assert_answers(output(*words, written_to(room / "for valgrind", few)), few)
 
 
-@pytest.fixture(scope="session")
-def compiled_cpp(room):
-    """Compiles a program in C++ against the library, and returns its path."""
-    compiler = next(filter(shutil.which, ("c++", "g++", "clang++")), None)
-    if not compiler:
-        pytest.skip("no C++ compiler (Debian's g++)")
-
-    def compile_one(source, *words):
-        program = room / os.path.basename(source)[: -len(".cpp")]
-        warnings = ["-Wall", "-Wextra", "-Werror", "-pthread", f"-I{TOP}/include", *words]
-        output(compiler, "-std=c++20", *warnings, source, ARCHIVE, "-o", program)
-        return program
-
-    return compile_one
-
-
-def test_cpp_example(compiled_cpp):
-    if not os.path.isdir(EIGEN):
-        pytest.skip("no Eigen (Debian's libeigen3-dev)")
-    example = compiled_cpp(f"{TOP}/examples/cpp/arrays.cpp", "-isystem", EIGEN)
-    assert output(example) == "5000000\n5000000\nfault 8 UnknownInput\n"
-
-
-def test_cpp_example_of_expressions(compiled_cpp):
-    example = compiled_cpp(f"{TOP}/examples/cpp/expressions.cpp")
-    assert output(example) == "2 13 18 1 100 25 \n0 1 \nfault 12 ShapeMismatch\n"
-
-
-def assert_built(got):
-    """Compares the headers that a builder makes with the expressions written by hand: node by node,
-    and by their answers."""
-    library, headers = Library(), got.split("\n")[:-1]
-    with open(BUILT, encoding="ascii") as file:
-        by_hand = file.read().split("\n")[1:-1]
-    assert len(headers) == len(by_hand)
-    for built, expr in zip(headers, by_hand):
-        asked = json.loads(built)
-        named = {it: "abc"[int(it)] for it in sorted(asked["inputs"])}
-        text = json.dumps(asked["expr"], separators=(",", ":"))
-        for name, other in {**named, "t0": "s", "t1": "t"}.items():
-            text = text.replace(f'"{name}"', f'"{other}"')
-        assert text == expr
-        inputs = ",".join(f'"{it}":{{"dims":{BUILT_OVER[it][0]}}}' for it in named.values())
-        values = [value for it in named.values() for value in BUILT_OVER[it][1]]
-        wanted = library.line(header(inputs, expr, 3), values)
-        assert wanted.startswith("{") and library.line(built, values) == wanted
-
-
-def test_built_expressions_have_each_operation():
-    with open(BUILT, encoding="ascii") as file:
-        assert {*re.findall(r'\["(\w+)"', file.read())} == {"let", *operations.OPERATIONS_OF[3]}
-
-
-def test_expressions_in_cpp(compiled_cpp):
-    assert_built(output(compiled_cpp(f"{SUPPORT}/built.cpp")))
-
-
-@pytest.fixture(scope="session")
-def rust(room):
-    """Where the example in Rust and the caller are built."""
-    if not shutil.which("cargo"):
-        pytest.skip("no cargo (Debian's cargo)")
-    words = ["cargo", "build", "--release", "--quiet", "--offline", "--target-dir", room / "rust"]
-    output(*words, cwd=os.path.join(TOP, "examples", "rust"))
-    return room / "rust" / "release"
-
-
 def test_rust(rust, path, frames):
     assert_answers(output(rust / "frames", path), frames)
-
-
-def test_rust_example(rust):
-    wanted = "[11, 22, 33] of dims [3]\nfault 12 ShapeMismatch\n[-48]\n[27]\n"
-    assert output(rust / "tensor") == wanted
-
-
-def test_expressions_in_rust(rust):
-    assert_built(output(rust / "built"))

@@ -2,6 +2,7 @@
 the kit, which proves nothing."""
 
 import os
+import re
 import shutil
 import subprocess
 
@@ -17,6 +18,8 @@ CHANGED = (
     "build",
 )
 IGNORED = shutil.ignore_patterns(*LEFT_OUT)
+# Options that the program of lines and that of frames read, and one that they refuse themselves.
+OPTIONS = [["--log"], ["--most-steps", "9"], ["--most-steps=9"], ["--most-workers=2", "--log"], ["--other"]]
 PROGRAM = """#!/bin/sh
 echo "NAME $GLIBC_TUNABLES${*:+ $*}"
 exec CAT
@@ -60,6 +63,16 @@ def written(path, text):
 def text_of(path, encoding="utf-8"):
     with open(path, encoding=encoding) as file:
         return file.read()
+
+
+def version():
+    return text_of(os.path.join(TOP, "VERSION")).strip()
+
+
+def calls():
+    """The library, and the calls that it has."""
+    declared = re.findall(r"(?m)^int64_t (tensor_\w+)\(", text_of(os.path.join(TOP, "include", "tensor.h")))
+    return ["tensor", *declared]
 
 
 def script(path, text):
@@ -152,7 +165,8 @@ class Copy:
 
 
 def kit_in(room):
-    """A kit that proves nothing."""
+    """Puts a kit that proves nothing into a folder, and returns the folder's path."""
+    room = os.path.realpath(room)
     folder = os.path.join(room, "kit")
     script(os.path.join(folder, "bin", "rt"), f"#!/bin/sh\necho {folder}/START-HERE.md\n")
     script(os.path.join(folder, "bin", "rattle"), PROVER)
@@ -161,3 +175,4 @@ def kit_in(room):
         script(os.path.join(folder, "toolchain", "bin", name), MAKER)
     written(os.path.join(folder, "KIT-ID"), "a kit that stands in\n")
     script(os.path.join(room, "stand_in"), f"#!/bin/sh\necho built\nexec {shutil.which('cat')}\n")
+    return room

@@ -29,6 +29,8 @@ COMPILERS = ("cc", "gcc", "clang")
 COUNTS = struct.Struct("5Q")
 # A run that takes longer never ends, however busy the machine is.
 SECONDS = 120
+# How long a command may take that builds a program, or checks many answers.
+LONG = 600
 # How many runs in a row have to meet no refusal: the number of requests of threads differs by run.
 QUIET = 4
 # Each of the first EACH requests is refused in a run of its own, and behind them one of every STRIDE.
@@ -99,6 +101,14 @@ def by_shell(streams, text, program=PROGRAM, options=(), before=""):
     how = {"env": {}, "capture_output": True, "timeout": SECONDS, "check": False}
     ran = subprocess.run(words, cwd=TOP, input=text, **how)
     return ran.stdout, ran.stderr, ran.returncode
+
+
+def output(*words, **how):
+    """The standard output of a command, which ends with status 0 and an empty standard error."""
+    words = list(map(str, words))
+    ran = subprocess.run(words, capture_output=True, text=True, timeout=LONG, check=False, **how)
+    assert (ran.returncode, ran.stderr) == (0, "")
+    return ran.stdout
 
 
 class Used(NamedTuple):
