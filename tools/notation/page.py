@@ -1,16 +1,18 @@
 """docs/HEADLINE.md: the clauses of the headline and the definitions that they rest on, in chapters.
 
 headline.md, beside this file, has the text. Words in braces are replaced: {clause CRATE FUNCTION NAME}
-by a clause, word for word; {first} and {second} by the definitions on which that clause rests;
-{definitions CRATE/FILE.. CRATE/FILE.NAME..} by these definitions, each after the definitions that it
-uses; and {types NAME..} by types of the code. {line CRATE/FILE.NAME: TEXT} gives a definition a plain
-line, if its file has none.
+by a clause, word for word; {first} and {second} by the number of definitions on which that clause
+rests; {definitions CRATE/FILE.. CRATE/FILE.NAME..} by these definitions, each after the definitions that
+it uses; and {types NAME..} by types of the code. Definitions that follow each other are one block.
+{also CRATE/FILE.NAME} adds a definition on which no clause rests, and all on which it rests; {third} is
+their number. {line CRATE/FILE.NAME: TEXT} gives a definition a plain line, if its file has none.
 """
 
 import os
 import re
 import textwrap
 
+from .names import module_of, resolve
 from .resting import Closure, heads_of, lines_of
 
 WORDS = os.path.join(os.path.dirname(os.path.abspath(__file__)), "headline.md")
@@ -27,6 +29,16 @@ def key_of(item):
     """Returns a definition as the page names it: its crate and its file, and its name there."""
     _, crate, _, *within = item.module.path.split(".")
     return f"{crate}/{'/'.join(within)}", item.name
+
+
+def named(key):
+    """Returns the definition that the page names so, as a closure takes it."""
+    path, _, name = key.rpartition(".")
+    crate, _, within = path.partition("/")
+    found = resolve(module_of(f"Rattle.{crate}.specs.{within.replace('/', '.')}"), name)
+    if not found:
+        raise Unprinted(f"there is no definition {key}")
+    return name, found
 
 
 def line_above(item):
@@ -66,15 +78,19 @@ class Page:
         self.find = find
         with open(WORDS, encoding="utf-8") as file:
             self.words = file.read().split("\n")
-        self.closure, self.halves = Closure(), []
+        self.closure, self.counts = Closure(), []
         self.plain, self.printed, self.bare = {}, set(), []
+        also = []
         for line in self.words:
             kind, rest = self.directive(line)
             if kind == "clause":
-                self.rest(find(*rest.split()))
+                self.rest(find(*rest.split()).uses())
+            elif kind == "also":
+                also.append(named(rest))
             elif kind == "line":
                 key, _, text = rest.partition(": ")
                 self.plain[key] = text
+        self.rest(also)
         self.named = {it for line in self.words for it in self.directive(line)[1].split()}
 
     @staticmethod
@@ -82,14 +98,14 @@ class Page:
         found = DIRECTIVE.match(line)
         return (found[1], found[2]) if found else ("", "")
 
-    def rest(self, clause):
-        """Adds the definitions on which a clause rests."""
+    def rest(self, used):
+        """Adds what these words stand for, and everything on which that rests."""
         before = len(self.closure.items)
-        for it in clause.uses():
+        for it in used:
             self.closure.add(*it)
         new = [it for it in self.closure.items[before:] if it.kind != "declared"]
         count = sum(len(lines_of(it)) for it in new)
-        self.halves.append(f"{len(new)} definitions in {count} lines")
+        self.counts.append(f"{len(new)} definitions in {count} lines")
 
     def definition(self, item):
         """Returns a definition with its plain line above it."""
@@ -131,6 +147,12 @@ class Page:
                 self.printed.add(item.path)
         return block(lines)
 
+    def counted(self, line):
+        """Returns a line of the page with the numbers of definitions in it."""
+        for word, count in zip(("{first}", "{second}", "{third}"), self.counts):
+            line = line.replace(word, count)
+        return line
+
     def put(self, kind, rest):
         """Returns the lines that replace a directive."""
         if kind == "clause":
@@ -141,14 +163,18 @@ class Page:
 
     def text(self):
         """Returns the whole page."""
-        lines = []
+        lines, before = [], ""
         for line in self.words:
             kind, rest = self.directive(line)
-            if kind == "line":
+            if kind in ("line", "also"):
                 continue
-            filled = line.replace("{first}", self.halves[0]).replace("{second}", self.halves[1])
-            lines += [""] if kind and lines[-1] == "```" else []
-            lines += self.put(kind, rest) if kind else [filled]
+            if kind == before == "definitions":
+                lines[-1:] = ["", *self.put(kind, rest)[1:]]
+            elif kind:
+                lines += ["", *self.put(kind, rest)] if before else self.put(kind, rest)
+            else:
+                lines.append(self.counted(line))
+            before = kind
         left = [".".join(key_of(it)) for it in self.closure.items if it.path not in self.printed]
         spoken = " ".join(self.words).replace("\\|", "|")
         unsaid = [it for it in self.closure.of_kit.values() if f"`{it}`" not in spoken]
