@@ -22,9 +22,7 @@ BEGINS = re.compile(r"run: proving and building (\d+) of (\d+) .*: \d+ to \d+ mi
 @pytest.fixture(scope="module")
 def room(tmp_path_factory):
     """A folder for copies, with a kit that stands in."""
-    folder = os.path.realpath(tmp_path_factory.mktemp("builds"))
-    kit_in(folder)
-    return folder
+    return kit_in(tmp_path_factory.mktemp("builds"))
 
 
 def crates_of(asked):

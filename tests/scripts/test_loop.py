@@ -45,8 +45,7 @@ BUILT = "built\nasked\n"
 @pytest.fixture(scope="module")
 def first(tmp_path_factory):
     """A copy of the repository in which ./run has built its program whole."""
-    room = os.path.realpath(tmp_path_factory.mktemp("loop"))
-    kit_in(room)
+    room = kit_in(tmp_path_factory.mktemp("loop"))
     script(os.path.join(room, "kit", "bin", "rattle"), PROVER)
     copy = Copy(room, "first")
     (out, said, status), copy.asked = copy.build("./run")

@@ -40,9 +40,7 @@ def differs(count):
 @pytest.fixture(scope="module")
 def room(tmp_path_factory):
     """A folder for copies, with a kit that stands in."""
-    folder = os.path.realpath(tmp_path_factory.mktemp("release"))
-    kit_in(folder)
-    return folder
+    return kit_in(tmp_path_factory.mktemp("release"))
 
 
 @pytest.fixture(scope="module")
