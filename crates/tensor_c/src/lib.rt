@@ -219,5 +219,5 @@ pub extern "C" fn tensor_fault_name(number: u32, name: &mut [u8]) -> i64
 pub extern "C" fn tensor_version() -> i64
     ensures { result ≡ pos version }
 {
-    3_000_000
+    4_000_000
 }
