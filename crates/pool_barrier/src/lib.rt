@@ -16,6 +16,7 @@ mod plays;
 mod rule;
 mod share;
 mod view;
+mod woken;
 
 pub use barrier::Barrier;
 pub use fault::BarrierFault;
