@@ -108,6 +108,7 @@ mod unparks;
 mod view;
 mod wait_point;
 mod waits;
+mod woken;
 
 pub use answers::{Committed, PassAll, TryCancel, TryCommit, TryNotify, TryNotifyAll};
 pub use count::{Count, EventCount, RowCount};

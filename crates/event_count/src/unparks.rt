@@ -8,12 +8,15 @@ use crate::kind::Kind;
 use crate::plays::{Follows, Unparks, Wakes};
 use crate::rule::{next_word_of, parker_word_of};
 use crate::seat::Seat;
+use crate::woken::Woken;
 use event_word::{NOBODY, PRE_WAITER, Phase};
 use std::alloc::Allocator;
 
 impl<K: Kind, A: Allocator> Count<K, A> {
     ghost use Rattle.event_count.specs.Gains.{foremost, behind, first_of};
     ghost use Rattle.event_count.specs.Gains.{polling, unparking, waking};
+    ghost use Rattle.event_count.specs.Cards.{card_in};
+    ghost use Rattle.event_count.specs.Places.{parker_place};
     ghost use Rattle.event_count.specs.Seats.{card_of, looked_of, IsSeatOf};
 
     /// Unparks the first seat to which this seat owes an unpark, and returns it. None if it owes
@@ -66,8 +69,9 @@ impl<K: Kind, A: Allocator> Count<K, A> {
         }
     }
 
-    /// Gives the first owed seat its token. `after` is the owed seat behind it.
-    fn unpark(&self, seat: &mut Seat, other: u16, after: Option<u16>)
+    /// Gives the first owed seat its token, and then wakes its thread. `after` is the owed seat
+    /// behind it.
+    fn unpark(&self, seat: &mut Seat, other: u16, after: Option<u16>) -> Woken
         requires of { IsSeatOf self.now seat.old }
         requires used { looked_of seat.old ≡ None }
         requires first { seat.old.owed ≡ Some other }
@@ -76,11 +80,14 @@ impl<K: Kind, A: Allocator> Count<K, A> {
         ensures of { IsSeatOf self.now seat.new }
         ensures used { looked_of seat.new ≡ None }
         ensures card { card_of seat.new ≡ unparking (card_of seat.old) }
+        ensures place { result.place.value ≡ parker_place other }
+        ensures woken { card_in result.seat.value.me.0 ≡ unparking (card_of seat.old) }
     {
         let place = parker_word_of(u32::from(other));
         self.table.shared.store::<Unparks>(&mut seat.seat, place, 1);
-        self.table.shared.wake_one(place);
+        let woken = Woken::at(&self.table.shared, place, &seat.seat);
         seat.owed = after;
+        woken
     }
 
     /// Takes the stacked seat's token. Returns false if it has not been unparked.
