@@ -1,3 +1,4 @@
 mod Jobs
 mod Lists
 mod Opened
+mod Puts

@@ -4,7 +4,7 @@ use Rattle.std.specs.Prelude.{◌≡◌, ℕ, ◌+◌, ◌-◌, ◌==◌, nat_lt
 use Rattle.event_count.specs.declared.view.BankBook.{BankBook}
 use Rattle.event_count.specs.declared.view.Card.{Card}
 use Rattle.event_count.specs.Cards.{unused_book}
-use Rattle.event_count.specs.Rows.Gains.{paying_in, taking_out, depositing}
+use Rattle.event_count.specs.Rows.Gains.{paying_in, taking_out, depositing, withdrawing}
 
 -- a seat with more credits than this puts some into the bank
 abbrev pub many_credits : ℕ
@@ -40,6 +40,12 @@ banking c = depositing c c.credits
 pub record HasBanked (c : Card) (credits : ℕ) : Type 0 where
   pub none : c.credits ≡ 0
   pub book : c.book ≡ paying_in unused_book credits
+
+-- the card of a seat that is to put a job in: without a credit it has taken out what was in the bank,
+-- and put its surplus back
+abbrev pub IsFunded : Card → Card → Type 0
+IsFunded c d = MatchBool (c.credits == 0)
+    ((found : ℕ) × (d ≡ saving (withdrawing c found))) (d ≡ c)
 
 -- How a put changes the book of a seat that has this many credits before it. A seat with a credit
 -- leaves the bank alone. A seat without one takes out what is there, and puts the surplus back.

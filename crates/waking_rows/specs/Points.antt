@@ -9,7 +9,7 @@ use Rattle.event_count.specs.declared.answers.PassAll.{PassAll}
 use Rattle.event_count.specs.declared.answers.PassAll.TheVariants as pass_all
 use Rattle.event_count.specs.Kinds.{with_rows}
 use Rattle.event_count.specs.Waits.{RestsOnCommit, RestsOnCancel, RestsOnNotifyAll}
-use Rattle.event_count.specs.Rows.Calls.{IsPassAll, IsStop}
+use Rattle.event_count.specs.Rows.Calls.{IsPassAll, IsAfterPasses, IsStop}
 use Rattle.event_count.specs.Rows.Seats.{row_count_id, row_sizes_of}
 use Rattle.waking_rows.specs.declared.row_point.RowPoint.{RowPoint}
 
@@ -35,10 +35,10 @@ EndsSleep pass_all.Stopped c answer d =
 EndsSleep (pass_all.Jobs row) c answer d =
     (answer ≡ committed.Consumed) × RestsOnCancel with_rows c d
 
--- a sleep: looks at the flag and these rows, and how it ends after them
+-- a sleep: looks at the flag and these rows, and how it ends after them; it does nothing else
 abbrev pub SleepsByRows : ℕ → Card → Committed → Card → Type 0
 SleepsByRows rows c answer d = (found : PassAll) × (between : Card)
-    × IsPassAll rows c found between × EndsSleep found between answer d
+    × IsPassAll rows c found between × IsAfterPasses c between × EndsSleep found between answer d
 
 -- a stop, by this seat or by another before it, and then a notification of all
 abbrev pub StopsAndWakes : Card → Card → Type 0

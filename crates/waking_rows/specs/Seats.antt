@@ -1,11 +1,14 @@
 -- The parts of `WakingRows` and of their seats that contracts name.
-use Rattle.std.specs.Prelude.{◌≡◌, ◌≢◌, ℕ, ◌+◌, ◌*◌, ◌/◌, ◌<◌, ◌≤◌, ◌↔◌, List, Option, Some, None}
-use Rattle.std.specs.Prelude.{Result, MatchResult}
+use Rattle.std.specs.Prelude.{◌≡◌, ◌≢◌, ℕ, ◌+◌, ◌*◌, ◌/◌, ◌<◌, ◌≤◌, ◌==◌, ◌↔◌, List, Option, Some}
+use Rattle.std.specs.Prelude.{None, Bool, true, false, Result, MatchResult, MatchBool}
 use Rattle.std.specs.Arc.{arc_value}
 use Rattle.event_word.specs.Step.{row_limit}
 use Rattle.event_count.specs.Seated.{TableId}
 use Rattle.event_count.specs.declared.view.BankBook.{BankBook}
-use Rattle.event_count.specs.Rows.Gains.{measuring}
+use Rattle.event_count.specs.declared.view.Card.{Card}
+use Rattle.event_count.specs.Kinds.{with_rows}
+use Rattle.event_count.specs.Waits.{RestsOnNotify}
+use Rattle.event_count.specs.Rows.Gains.{measuring, publishing, redeeming}
 use Rattle.event_count.specs.Seats.{card_of, seat_id}
 use Rattle.event_count.specs.Rows.Seats.{row_count_id}
 use Rattle.run_queue.specs.SlotSeats.{rows_id, row_count_of, seat_count_of, table_of, number_in}
@@ -14,7 +17,7 @@ use Rattle.run_queue.specs.Elements.{empty_word}
 use Rattle.run_queue.specs.Limits.{most_jobs}
 use Rattle.waking_rows.specs.declared.waking_rows.WakingRows.{WakingRows}
 use Rattle.waking_rows.specs.declared.waking_rows.WakingSeat.{WakingSeat}
-use Rattle.waking_rows.specs.Credits.{kept, GoesToBank, funds_of}
+use Rattle.waking_rows.specs.Credits.{kept, GoesToBank, funds_of, IsFunded}
 use Rattle.waking_rows.specs.Tickets.{jobs_in}
 
 -- the credits with which each seat begins, if `on_one_count` opens rows for this many workers: an
@@ -22,6 +25,18 @@ use Rattle.waking_rows.specs.Tickets.{jobs_in}
 -- are left.
 abbrev pub first_credits : ℕ → ℕ
 first_credits workers = row_limit / (2 * workers + 2)
+
+-- the card after a publish in the row, which the slot accepted (true), or whose ticket was given back
+abbrev pub putting : Bool → Card → ℕ → Card
+putting true c row = publishing c row
+putting false c row = redeeming (publishing c row) row
+
+-- What a put in this row does at the count. Without a credit it does nothing more. Otherwise it
+-- publishes the job, gives the ticket of a refused job back, and notifies once.
+abbrev pub PutsAt : (row : ℕ) → (accepted : Bool) → Card → Card → Type 0
+PutsAt row accepted c d = (funded : Card) × IsFunded c funded
+    × MatchBool (funded.credits == 0) (d ≡ funded)
+    (RestsOnNotify with_rows (putting accepted funded row) d)
 
 module _ {J : Type 0} where
   -- the rows to which the seat belongs, by their slots and by their count

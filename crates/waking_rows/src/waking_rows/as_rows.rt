@@ -1,13 +1,14 @@
 //! `WakingRows` as `Rows`. Each contract here says more than the trait's: which claim the call
 //! made, and what it did with credits.
 ghost use Rattle.std.specs.Prelude.{◌≡◌, ◌<◌, ◌≤◌, ◌+◌, ◌++◌, length, option_to_list};
-ghost use Rattle.std.specs.Prelude.{IfErr, IsErr, IsNone};
+ghost use Rattle.std.specs.Prelude.{IfErr, IsErr, IsNone, is_ok};
+ghost use Rattle.event_count.specs.Seats.{card_of};
 ghost use Rattle.run_queue.specs.Account.{AddsIfOk};
 ghost use Rattle.run_queue.specs.Elements.{ready_word};
 ghost use Rattle.run_queue.specs.Limits.{most_jobs};
 ghost use Rattle.run_queue.specs.Positions.{position_before, element_at, row_with};
 ghost use Rattle.waking_rows.specs.Seats.{credits_by, book_by, funds, front_by, claimed_by};
-ghost use Rattle.waking_rows.specs.Seats.{Claims, IsPut, PaysIfOk, LooksAtLength, credits_after};
+ghost use Rattle.waking_rows.specs.Seats.{Claims, IsPut, PaysIfOk, PutsAt, LooksAtLength, credits_after};
 
 use crate::opening::rows_alone;
 use crate::waking_rows::{WakingRows, WakingSeat};
@@ -57,6 +58,8 @@ impl<J: Drop, A: Allocator + Clone> Rows<J, A> for WakingRows<J, A> {
         ensures puts { AddsIfOk result job (puts_by seat.old) (puts_by seat.new) }
         ensures takes { takes_by seat.new ≡ takes_by seat.old }
         ensures refused { IsPut (IsErr result) seat.old seat.new }
+        ensures steps { PutsAt (number_by seat.old) (is_ok result) (card_of seat.old.seat)
+            (card_of seat.new.seat) }
         ensures at_front { 0 < funds seat.old seat.new → claimed_by seat.new
             ≡ element_at (number_by seat.old) (front_by seat.old) }
         ensures credits { PaysIfOk result (funds seat.old seat.new) (credits_by seat.new) }
@@ -90,6 +93,7 @@ impl<J: Drop, A: Allocator + Clone> Rows<J, A> for WakingRows<J, A> {
         ensures puts { AddsIfOk result job (puts_by seat.old) (puts_by seat.new) }
         ensures takes { takes_by seat.new ≡ takes_by seat.old }
         ensures refused { IsPut (IsErr result) seat.old seat.new }
+        ensures steps { PutsAt row (is_ok result) (card_of seat.old.seat) (card_of seat.new.seat) }
         ensures in_row { 0 < funds seat.old seat.new → row_with (claimed_by seat.new) ≡ row }
         ensures credits { PaysIfOk result (funds seat.old seat.new) (credits_by seat.new) }
     {

@@ -1,8 +1,10 @@
 //! The puts and takes. A put publishes before it claims its slot, and notifies afterwards; the laws
 //! of the crate rest on this order.
 ghost use Rattle.std.specs.Prelude.{◌≡◌, ◌<◌, ◌+◌, ◌++◌, option_to_list};
-ghost use Rattle.std.specs.Prelude.{IfErr, IsErr, IfSome, IsNone, IfNone, MatchResult};
+ghost use Rattle.std.specs.Prelude.{IfErr, IsErr, IfSome, IsNone, IfNone, MatchResult, is_ok};
+ghost use Rattle.event_count.specs.Kinds.{with_rows};
 ghost use Rattle.event_count.specs.Seats.{card_of, seat_id, IsIdle};
+ghost use Rattle.event_count.specs.Waits.{RestsOnNotify};
 ghost use Rattle.event_count.specs.Rows.Gains.{redeeming};
 ghost use Rattle.event_count.specs.Rows.Seats.{row_of, ticket_id, IsSilent};
 ghost use Rattle.run_queue.specs.Account.{AddsIfOk};
@@ -11,8 +13,8 @@ ghost use Rattle.run_queue.specs.Positions.{position_before, element_at, row_wit
 ghost use Rattle.waking_rows.specs.Credits.{saving};
 ghost use Rattle.waking_rows.specs.Seats.{IsSeatOf, IsSameSeat, number_by, puts_by, takes_by};
 ghost use Rattle.waking_rows.specs.Seats.{count_in, rows_in, credits_by, funds, front_by, claimed_by};
-ghost use Rattle.waking_rows.specs.Seats.{Claims, IsPut, PaysIfOk};
-ghost use Rattle.waking_rows.specs.Tickets.{job_back};
+ghost use Rattle.waking_rows.specs.Seats.{Claims, IsPut, PaysIfOk, PutsAt};
+ghost use Rattle.waking_rows.specs.Tickets.{job_back, giving_back};
 
 use crate::ticketed::Ticketed;
 use crate::waking_rows::{WakingRows, WakingSeat};
@@ -31,6 +33,8 @@ impl<J, A: Allocator> WakingRows<J, A> {
         ensures puts { AddsIfOk result job (puts_by seat.old) (puts_by seat.new) }
         ensures takes { takes_by seat.new ≡ takes_by seat.old }
         ensures refused { IsPut (IsErr result) seat.old seat.new }
+        ensures steps { PutsAt (number_by seat.old) (is_ok result) (card_of seat.old.seat)
+            (card_of seat.new.seat) }
         ensures at_front { 0 < funds seat.old seat.new → claimed_by seat.new
             ≡ element_at (number_by seat.old) (front_by seat.old) }
         ensures credits { PaysIfOk result (funds seat.old seat.new) (credits_by seat.new) }
@@ -62,6 +66,7 @@ impl<J, A: Allocator> WakingRows<J, A> {
         ensures puts { AddsIfOk result job (puts_by seat.old) (puts_by seat.new) }
         ensures takes { takes_by seat.new ≡ takes_by seat.old }
         ensures refused { IsPut (IsErr result) seat.old seat.new }
+        ensures steps { PutsAt row (is_ok result) (card_of seat.old.seat) (card_of seat.new.seat) }
         ensures in_row { 0 < funds seat.old seat.new → row_with (claimed_by seat.new) ≡ row }
         ensures credits { PaysIfOk result (funds seat.old seat.new) (credits_by seat.new) }
     {
@@ -127,6 +132,8 @@ impl<J, A: Allocator> WakingRows<J, A> {
         ensures idle { IsIdle seat.new }
         ensures silent { IsSilent seat.new }
         ensures answer { result ≡ job_back laid }
+        ensures steps { RestsOnNotify with_rows (giving_back laid (card_of seat.old))
+            (card_of seat.new) }
         ensures book { (card_of seat.new).book ≡ (card_of seat.old).book }
         ensures credits { MatchResult laid
             (λ _. (card_of seat.new).credits ≡ (card_of seat.old).credits)

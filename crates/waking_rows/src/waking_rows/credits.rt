@@ -3,7 +3,7 @@
 ghost use Rattle.std.specs.Prelude.{◌≡◌};
 ghost use Rattle.event_count.specs.Seats.{card_of, seat_id, IsIdle};
 ghost use Rattle.event_count.specs.Rows.Seats.{IsSilent};
-ghost use Rattle.waking_rows.specs.Credits.{saving, funds_of, GoesToBank};
+ghost use Rattle.waking_rows.specs.Credits.{saving, funds_of, GoesToBank, IsFunded};
 ghost use Rattle.waking_rows.specs.Seats.{count_in};
 
 use crate::waking_rows::WakingRows;
@@ -31,6 +31,7 @@ impl<J, A: Allocator> WakingRows<J, A> {
         ensures ours { seat_id seat.new ≡ seat_id seat.old }
         ensures idle { IsIdle seat.new }
         ensures silent { IsSilent seat.new }
+        ensures card { IsFunded (card_of seat.old) (card_of seat.new) }
         ensures bank { GoesToBank (card_of seat.old).credits (card_of seat.old).book
             (card_of seat.new).book }
         ensures funds { (card_of seat.new).credits
