@@ -149,7 +149,7 @@ int64_t tensor_shared(const uint8_t *header, size_t header_length,
    Any number of threads may run one plan as long as no thread writes it. A plan is valid for this
    version of the library (tensor_version) and this kind of machine.
 
-   While it runs, tensor_prepare allocates as much memory as `count` values take. */
+   tensor_prepare takes no values. Its memory grows with the length of the header, and not with `count`. */
 int64_t tensor_prepare(const uint8_t *header, size_t header_length, uint64_t count,
                        uint64_t *plan, size_t plan_length);
 
@@ -167,13 +167,12 @@ int64_t tensor_run(const uint64_t *plan, size_t plan_length,
 
 /* Writes the rank and the dimensions of the answer to a frame with this header and `count` values.
    Returns the number of values of the answer, and computes none of them. Faults and TENSOR_NO_ROOM are
-   returned as by tensor_evaluate. */
+   returned as by tensor_evaluate. Its memory does not grow with `count`. */
 int64_t tensor_dims(const uint8_t *header, size_t header_length, uint64_t count,
                     uint64_t *dims, size_t dims_length);
 
 /* Does what tensor_dims does for tensors in separate arrays, as tensor_evaluate_arrays takes them. It
-   reads no value, and its memory does not grow with the number of values. tensor_dims allocates as
-   much memory as `count` values take. */
+   reads no value, and its memory does not grow with the number of values. */
 int64_t tensor_dims_of_arrays(const uint8_t *header, size_t header_length,
                               const struct tensor_array *arrays, size_t count,
                               uint64_t *dims, size_t dims_length);

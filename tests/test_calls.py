@@ -9,6 +9,7 @@ values stands for that many zeros. A new case is a row of its table.
 import ctypes
 import mmap
 import os
+import resource
 
 import pytest
 
@@ -20,6 +21,8 @@ from hostile import TOP
 NO_ROOM, NO_PLAN, TOO_LONG, BAD_TENSOR, BAD_ARITY = -100, -101, -1, -7, -9
 # How many numbers the plan of an operation on two tensors has, as include/tensor.h says.
 NUMBERS = 16
+# How many bytes a call may take that reads no value.
+MOST_BESIDE = 2**22
 ENDS = [LEAST, GREATEST, -1, 1]
 TWO = '"a":{"dims":[2]},"b":{"dims":[2]}'
 ADD, SUB, FAULT = (header(TWO, it) for it in ('["add","a","b"]', '["sub","a","b"]', '["div"]'))
@@ -263,6 +266,35 @@ def test_little_room_for_values(library):
 )
 def test_dims_of_many_values(library, values, result):
     assert library.call("dims", bytes_of(ADD), values, blank(2, ctypes.c_uint64)) == result
+
+
+@pytest.fixture
+def little_memory():
+    """A process that can take MOST_BESIDE bytes more than it has."""
+    with open("/proc/self/statm", encoding="ascii") as file:
+        taken = int(file.read().split()[0]) * mmap.PAGESIZE
+    before = resource.getrlimit(resource.RLIMIT_AS)
+    resource.setrlimit(resource.RLIMIT_AS, (taken + MOST_BESIDE, before[1]))
+    yield
+    resource.setrlimit(resource.RLIMIT_AS, before)
+
+
+# What is returned for the values' number: the length of the plan, or a fault; and the size of the dims.
+@table(
+    "values, numbers, size",
+    {
+        "as many as places": (2**28, 14, 2**27),
+        "one too few": (2**28 - 1, BAD_TENSOR, BAD_TENSOR),
+        "one too many": (2**28 + 1, BAD_TENSOR, BAD_TENSOR),
+        "as many as there may be": (WIDEST, BAD_TENSOR, BAD_TENSOR),
+        "more than there may be": (WIDEST + 1, TOO_LONG, TOO_LONG),
+    },
+)
+def test_a_count_takes_no_memory(library, little_memory, values, numbers, size):
+    text = bytes_of(header('"a":{"dims":[134217728]},"b":{"dims":[2,67108864]}', '["neg","a"]', 3))
+    plan, dims = blank(NUMBERS + 1, ctypes.c_uint64), blank(2, ctypes.c_uint64)
+    assert library.call("prepare", text, values, plan) == numbers
+    assert library.call("dims", text, values, dims) == size
 
 
 def test_one_value_too_many(library):

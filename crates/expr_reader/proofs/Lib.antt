@@ -14,5 +14,6 @@ pub mod Operations
 pub mod SameDims
 pub mod Tokens
 pub mod Trees
+pub mod Unread
 pub mod Versions
 pub mod Walk

@@ -22,6 +22,7 @@ pub mod Frame
 pub mod Limits
 pub mod Located
 pub mod Node
+pub mod Outline
 pub mod Place
 pub mod Profile
 pub mod Request

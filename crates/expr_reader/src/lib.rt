@@ -13,10 +13,12 @@ mod expression;
 mod fault;
 mod fields;
 mod items;
+mod known;
 mod laws;
 mod named;
 mod node;
 mod operation;
+mod outline;
 mod place;
 mod request;
 mod tensors;
@@ -27,15 +29,18 @@ mod version;
 pub use array::Array;
 pub use binding::Binding;
 pub use fault::Fault;
+pub use known::KnownInputs;
 pub use laws::{
     arrays_mean_frames, frames_ask_alike, frames_keep_versions, frames_mean_texts,
     other_arrays_have_faults, unfilled_headers_have_faults,
 };
+pub use outline::Outline;
 pub use place::{Indices, Located, MAX_DEPTH, Place};
 pub use request::{Parsed, Request};
 pub use tensor_ops::{Dims, Expr, Inputs, Tensor};
 pub use text::{
-    locate, parse_request, read_arrays, read_frame, read_part, read_request, values_limit,
+    locate, parse_request, read_arrays, read_frame, read_outline, read_part, read_request,
+    values_limit,
 };
 
 /// The largest number of bytes of a text or a header.

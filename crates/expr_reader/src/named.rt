@@ -24,12 +24,13 @@ ghost use Rattle.expr_reader.specs.Tensors.{Named, names_in, number_of};
 
 use crate::binding::Binding;
 use crate::fault::Fault;
+use crate::known::KnownInputs;
 use crate::place::Place;
 use crate::values::Values;
 use serde_json::{Map, Value};
 use std::alloc::Global;
 use std::collections::BTreeMap;
-use tensor_ops::{Bounds, Dims, Inputs};
+use tensor_ops::{Bounds, Dims};
 
 /// The inputs, the bindings, and the number of each by its name. The map is ordered and has no
 /// hashes, so no choice of names makes it slow.
@@ -37,7 +38,7 @@ use tensor_ops::{Bounds, Dims, Inputs};
 pub(crate) struct NamedInputs<'v, 'a> {
     pub(crate) alloc: Global,
     pub(crate) numbers: BTreeMap<&'v str, u32>,
-    pub(crate) inputs: Inputs<'a>,
+    pub(crate) inputs: KnownInputs<'a>,
     pub(crate) bindings: Vec<Binding>,
 }
 
@@ -86,7 +87,7 @@ impl<'v, 'a> NamedInputs<'v, 'a> {
     {
         let count = self.inputs.len();
         if number < count {
-            return self.inputs.get(number).dims();
+            return self.inputs.dims(number);
         }
         &self.bindings[(number - count) as usize].dims
     }
@@ -168,7 +169,7 @@ fn read_members<'v, 'a>(
         *place = Place::Field("inputs");
         return Err(Fault::BadTensor);
     }
-    let inputs = Inputs::with_bounds(tensors, bounds);
+    let inputs = KnownInputs::with_bounds(tensors, bounds);
     let bindings = Vec::new(alloc);
     Ok(NamedInputs {
         alloc,

@@ -1,11 +1,13 @@
 //! Reads the tensors of a request, in the three forms that they have in a text, in a frame, and
 //! beside arrays. They are defined in `specs/Tensors`, `Frame` and `Arrays`.
 
-ghost use Rattle.std.specs.Prelude.{◌≡◌, ◌≤◌, length, IfOk, IfSome};
+ghost use Rattle.std.specs.Prelude.{◌≡◌, ◌≤◌, ℤ, List, length, IfOk, IfSome};
 ghost use Rattle.serde_json.specs.View.{view};
+ghost use Rattle.tensor_ops.specs.Index.{size_of};
 ghost use Rattle.tensor_ops.specs.Legal.{IsPossible, IsWithin};
 ghost use Rattle.expr_reader.specs.Arrays.{array_tensor};
 ghost use Rattle.expr_reader.specs.Frame.{framed_tensor};
+ghost use Rattle.expr_reader.specs.private.Known.{taken};
 ghost use Rattle.expr_reader.specs.private.Outcome.{IsReadOr};
 ghost use Rattle.expr_reader.specs.Tensors.{dims_in, values_in, tensor_in};
 
@@ -50,16 +52,28 @@ pub(crate) fn read_framed_tensor<'a>(
     ensures bounds { IfOk result (λ t. IsWithin bounds t.dims) }
     ensures few { IfOk result (λ t. length t.values ≤ length values.now) }
 {
+    let dims = read_framed_dims(value, bounds, values.len())?;
+    let size = dims.size() as usize;
+    Ok(Tensor::lent(dims, &values[..size]))
+}
+
+/// Reads the dims of a tensor of a frame, which may have at most `count` places.
+pub(crate) fn read_framed_dims(value: &Value, bounds: Bounds, count: usize) -> Result<Dims, Fault>
+    requires { IsPossible bounds }
+    ensures dims { (values : List ℤ) → length values ≡ count
+        → IsReadOr Fault.BadTensor (taken values) (framed_tensor bounds values (view value.now)) result }
+    ensures bounds { IfOk result (λ dims. IsWithin bounds dims) }
+    ensures few { IfOk result (λ dims. size_of dims ≤ count) }
+{
     if !has_members(value, 1) {
         return Err(Fault::BadTensor);
     }
     let dims = value.get("dims").ok_or(Fault::BadTensor)?;
     let dims = read_dims(dims, bounds).ok_or(Fault::BadTensor)?;
-    let size = dims.size() as usize;
-    if values.len() < size {
+    if dims.size() > count as u64 {
         return Err(Fault::BadTensor);
     }
-    Ok(Tensor::lent(dims, &values[..size]))
+    Ok(dims)
 }
 
 /// Reads a tensor with an array of its own: an object of exactly `dims`. It borrows all of

@@ -2,7 +2,7 @@
 //! it, to the request or its first fault. The order of the checks is the order of `specs/Request`.
 
 ghost use Rattle.std.specs.Prelude.{◌≡◌, ◌+◌, ◌<◌, ◌≤◌, ◌⊎◌, [], Ok, Err, IsOk, MatchResult};
-ghost use Rattle.std.specs.Prelude.{MatchOption, length, IsErrOf, IfOk, option_map, codes, min};
+ghost use Rattle.std.specs.Prelude.{MatchOption, length, IsErrOf, IfOk, option_map, codes, min, pos, replicate};
 ghost use Rattle.std.specs.Prelude.{option_and_then};
 ghost use Rattle.std.specs.Option.{option_map_or};
 ghost use Rattle.serde_json.specs.View.{view};
@@ -14,6 +14,7 @@ ghost use Rattle.expr_reader.specs.Frame.{request_of_frame, values_limit};
 ghost use Rattle.expr_reader.specs.Limits.{most_bytes, most_values, widest_values};
 ghost use Rattle.expr_reader.specs.Located.{steps_under, located_under};
 ghost use Rattle.expr_reader.specs.Expression.{expression_at};
+ghost use Rattle.expr_reader.specs.Outline.{outlined};
 ghost use Rattle.expr_reader.specs.private.Outcome.{IsToldAt, IsRefused};
 ghost use Rattle.expr_reader.specs.Place.{field, here, below, unlocated};
 ghost use Rattle.expr_reader.specs.Profile.{profile_of, frame_profile_of};
@@ -30,6 +31,7 @@ use crate::fault::Fault;
 use crate::fields::{Fields, parse, within};
 use crate::named::NamedInputs;
 use crate::node::Subtree;
+use crate::outline::Outline;
 use crate::place::{Indices, Located, Place};
 use crate::request::{Parsed, Request};
 use crate::values::Values;
@@ -54,7 +56,8 @@ pub fn read_request(alloc: Global, text: &[u8]) -> Result<Request<'static>, Faul
 {
     let parsed = parse_request(alloc, text)?;
     let mut place = Place::Whole;
-    read_value(alloc, &parsed.value, Values::InText, &mut place)
+    let outline = read_value(alloc, &parsed.value, Values::InText, &mut place)?;
+    outline.into_request(alloc)
 }
 
 /// Reads a frame: a header and the values after it. The header is a request text in which each
@@ -76,7 +79,33 @@ pub fn read_frame<'a>(alloc: Global, header: &[u8], values: &'a [i64]) -> Result
 {
     let parsed = parse_header(alloc, header, values.len())?;
     let mut place = Place::Whole;
-    read_value(alloc, &parsed.value, Values::Behind(values), &mut place)
+    let outline = read_value(alloc, &parsed.value, Values::Behind(values), &mut place)?;
+    outline.into_request(alloc)
+}
+
+/// Reads a header with `count` values after it, of which only the number is known. No value is
+/// read, and no allocation grows with their number. The result holds for any values, since a
+/// request does not depend on them: see [`frames_ask_alike`](crate::frames_ask_alike).
+///
+/// # Errors
+///
+/// The faults of [`read_frame`].
+pub fn read_outline(alloc: Global, header: &[u8], count: u64) -> Result<Outline<'static>, Fault>
+    ensures outline { MatchResult result
+        (λ outline. request_of_frame header.now (replicate count (pos 0)) ≡ Ok (outlined outline))
+        (λ fault. (fault ≡ Fault.NoMemory)
+        ⊎ (request_of_frame header.now (replicate count (pos 0)) ≡ Err fault)) }
+    ensures long_header { most_bytes < length header.now → IsErrOf result Fault.TooLong }
+    ensures many_values { widest_values < count → IsErrOf result Fault.TooLong }
+{
+    let parsed = parse_header(alloc, header, count as usize)?;
+    let mut place = Place::Whole;
+    read_value(
+        alloc,
+        &parsed.value,
+        Values::Unread(count as usize),
+        &mut place,
+    )
 }
 
 /// Reads a header with an array of values for each tensor, in the order of the tensors' names. If
@@ -104,7 +133,8 @@ pub fn read_arrays<'a>(
     let count = count_of(arrays);
     let parsed = parse_header(alloc, header, count)?;
     let mut place = Place::Whole;
-    read_value(alloc, &parsed.value, Values::Apart(arrays), &mut place)
+    let outline = read_value(alloc, &parsed.value, Values::Apart(arrays), &mut place)?;
+    outline.into_request(alloc)
 }
 
 /// Returns how many values arrays have together, or [`WIDEST_VALUES`] + 1 if there are more than
@@ -224,23 +254,25 @@ pub fn read_part(alloc: Global, parsed: &Parsed, expr: &Value) -> Result<Request
     };
     let fields = Fields { expr, ..fields };
     let mut place = Place::Whole;
-    read_fields(alloc, &fields, Values::InText, &mut place)
+    let outline = read_fields(alloc, &fields, Values::InText, &mut place)?;
+    outline.into_request(alloc)
 }
 
-/// Reads the request of a JSON value. `place` is the whole value before the call; on a fault, it is
+/// Reads the outline of a JSON value. `place` is the whole value before the call; on a fault, it is
 /// the fault's place.
 fn read_value<'v, 'a>(
     alloc: Global,
     value: &'v Value,
     values: Values<'a>,
     place: &mut Place<'v>,
-) -> Result<Request<'a>, Fault>
+) -> Result<Outline<'a>, Fault>
     requires few { member_count (view value.now) ≤ most_bytes + 1 }
     requires start { steps_under place.old ≡ [] }
-    ensures request { IsToldAt asked_under
+    ensures outline { IsToldAt outlined
         (asked_by (source_of values.entry) (view value.now))
         (steps_under place.new) result }
-    ensures unbound { source_of values.entry ≡ in_text → IfOk result IsUnbound }
+    ensures unbound { source_of values.entry ≡ in_text
+        → IfOk result (λ outline. outline.bindings.items ≡ []) }
 {
     let Some(fields) = Fields::of(value) else {
         return Err(Fault::BadField);
@@ -248,20 +280,21 @@ fn read_value<'v, 'a>(
     read_fields(alloc, &fields, values, place)
 }
 
-/// Reads the request of the five fields, in the order of the faults. On a fault, `place` is set to
+/// Reads the outline of the five fields, in the order of the faults. On a fault, `place` is set to
 /// the fault's place.
 fn read_fields<'v, 'a>(
     alloc: Global,
     fields: &Fields<'v>,
     values: Values<'a>,
     place: &mut Place<'v>,
-) -> Result<Request<'a>, Fault>
+) -> Result<Outline<'a>, Fault>
     requires { member_count (view fields.now.inputs.now) ≤ most_bytes + 1 }
-    ensures request { IsToldAt asked_under
+    ensures outline { IsToldAt outlined
         (fields_asked (versions_by (source_of values.entry)) (naming_by (source_of values.entry))
         (fields_under fields.now))
         (steps_under place.new) result }
-    ensures unbound { source_of values.entry ≡ in_text → IfOk result IsUnbound }
+    ensures unbound { source_of values.entry ≡ in_text
+        → IfOk result (λ outline. outline.bindings.items ≡ []) }
 {
     let Some(version) = version_of(fields, values.versions()) else {
         *place = Place::Field("version");
@@ -279,7 +312,7 @@ fn read_fields<'v, 'a>(
     let _nodes = version.nodes();
     let mut named = NamedInputs::read(alloc, fields.inputs, version.bounds(), values, place)?;
     let tree = read_tree(version, &mut named, fields.expr, place)?;
-    Ok(Request {
+    Ok(Outline {
         workers: workers as u32,
         block,
         inputs: named.inputs,

@@ -1,4 +1,4 @@
-//! Where the values of a request's tensors are: in the text, after it, or in arrays.
+//! Where the values of a request's tensors are: in the text, after it, in arrays, or not given.
 //! `specs/private/Behind` has this as `Source`; another place for values is a variant of both.
 
 ghost use Rattle.std.specs.Prelude.{◌≡◌, ◌≤◌, length, IfOk};
@@ -9,18 +9,20 @@ ghost use Rattle.expr_reader.specs.private.Version.{versions_under};
 
 use crate::array::Array;
 use crate::fault::Fault;
-use crate::tensors::{read_array_tensor, read_framed_tensor, read_tensor};
+use crate::known::KnownTensor;
+use crate::tensors::{read_array_tensor, read_framed_dims, read_framed_tensor, read_tensor};
 use crate::version::Versions;
 use serde_json::Value;
 use std::alloc::Global;
-use tensor_ops::{Bounds, Tensor};
+use tensor_ops::Bounds;
 
-/// Where the values are that still belong to no tensor.
+/// Where the values are that still belong to no tensor. Of unread values only the number is known.
 #[derive(Clone, Copy)]
 pub(crate) enum Values<'a> {
     InText,
     Behind(&'a [i64]),
     Apart(&'a [Array<'a>]),
+    Unread(usize),
 }
 
 impl<'a> Values<'a> {
@@ -33,7 +35,7 @@ impl<'a> Values<'a> {
     {
         match self {
             Values::InText => Versions::OfTexts,
-            Values::Behind(_) | Values::Apart(_) => Versions::OfFrames,
+            Values::Behind(_) | Values::Apart(_) | Values::Unread(_) => Versions::OfFrames,
         }
     }
 
@@ -44,32 +46,38 @@ impl<'a> Values<'a> {
         alloc: Global,
         value: &Value,
         bounds: Bounds,
-    ) -> Result<Tensor<'a>, Fault>
+    ) -> Result<KnownTensor<'a>, Fault>
         requires { IsPossible bounds }
         ensures tensor { IsReadOr Fault.BadTensor (λ t. t)
             (tensor_by (source_of self.entry) bounds (view value.now)) result }
         ensures bounds { IfOk result (λ t. IsWithin bounds t.dims) }
         ensures first { IfOk result (λ t. HasFirst (source_of self.entry) t) }
     {
-        match self {
-            Values::InText => read_tensor(alloc, value, bounds),
-            Values::Behind(values) => read_framed_tensor(value, bounds, values),
+        let tensor = match self {
+            Values::InText => read_tensor(alloc, value, bounds)?,
+            Values::Behind(values) => read_framed_tensor(value, bounds, values)?,
             Values::Apart(arrays) => match arrays.first() {
-                Some(first) => read_array_tensor(value, bounds, first.values),
-                None => Err(Fault::BadTensor),
+                Some(first) => read_array_tensor(value, bounds, first.values)?,
+                None => return Err(Fault::BadTensor),
             },
-        }
+            Values::Unread(count) => {
+                let dims = read_framed_dims(value, bounds, count)?;
+                return Ok(KnownTensor::unread(dims));
+            }
+        };
+        Ok(KnownTensor::read(tensor))
     }
 
     /// Returns the values that are left after a tensor that took the first of them.
-    pub(crate) fn without(self, tensor: &Tensor) -> Values<'a>
+    pub(crate) fn without(self, tensor: &KnownTensor) -> Values<'a>
         requires { HasFirst (source_of self) tensor.now }
         ensures { source_of result ≡ left_by (source_of self.entry) tensor.now }
     {
         match self {
             Values::InText => Values::InText,
-            Values::Behind(values) => Values::Behind(&values[tensor.values().len()..]),
+            Values::Behind(values) => Values::Behind(&values[tensor.len()..]),
             Values::Apart(arrays) => Values::Apart(&arrays[1..]),
+            Values::Unread(count) => Values::Unread(count - tensor.len()),
         }
     }
 
@@ -81,6 +89,7 @@ impl<'a> Values<'a> {
             Values::InText => true,
             Values::Behind(values) => values.is_empty(),
             Values::Apart(arrays) => arrays.is_empty(),
+            Values::Unread(count) => count == 0,
         }
     }
 }

@@ -3,14 +3,15 @@ use Rattle.std.proofs.Common.{◌≡◌, ◌<◌, ◌+◌, ℕ, zero, suc, true,
 use Rattle.std.proofs.Common.{refl, ap, sym, ◌∙◌, subst, arith, append_assoc, get_or}
 use Rattle.std.proofs.Common.{length-append}
 use Rattle.std.proofs.lemmas.Bool.{and_parts, and_from}
-use Rattle.std.proofs.lemmas.List.{append-nil, get_or_append_left, map_push, take_more, drop_more}
+use Rattle.std.proofs.lemmas.List.{append-nil, get_or_append_left, length-map, map_push, drop_more}
 use Rattle.std.specs.List.{All}
 use Rattle.std.proofs.lemmas.List.Elements.{All-append}
 use Rattle.std.proofs.Math.Seq.{get_or-append_seam}
 use Rattle.tensor_terms.specs.Term.{Term, has_inputs}
 use Rattle.tensor_terms.specs.Tree.{term_of}
 use Rattle.tensor_terms.specs.declared.expr.Expr.{Expr}
-use Rattle.expr_reader.specs.Bindings.{have_inputs}
+use Rattle.expr_reader.specs.Bindings.{have_inputs, term_under, terms_under}
+use Rattle.expr_reader.specs.declared.binding.Binding.{Binding}
 use Rattle.prepared_expressions.specs.Bindings.{terms_in}
 use Rattle.prepared_expressions.specs.Prepared.{IsWritable}
 use Rattle.prepared_expressions.specs.Recorded.{recorded, recorded_all}
@@ -18,11 +19,6 @@ use Rattle.prepared_expressions.specs.Recorded.{recorded, recorded_all}
 -- the terms of one expression more
 pub terms_in-push : (es : List Expr) (e : Expr) → terms_in (es ++ e ∷ []) ≡ terms_in es ++ term_of e ∷ []
 terms_in-push es e = map_push term_of es e
-
-pub terms_in-take : (es : List Expr) (k : ℕ) (e : Expr) → k < length es → e ≡ get_or es k e
-    → terms_in (take (k + 1) es) ≡ terms_in (take k es) ++ term_of e ∷ []
-terms_in-take es k e more is =
-    ap terms_in (take_more es k e more ∙ ap (λ x. take k es ++ x ∷ []) (sym is)) ∙ terms_in-push (take k es) e
 
 pub terms_in-drop : (es : List Expr) (k : ℕ) (e : Expr) → k < length es → e ≡ get_or es k e
     → terms_in (drop k es) ≡ term_of e ∷ terms_in (drop (k + 1) es)
@@ -45,12 +41,12 @@ pub writable-last : (ts : List Term) (t : Term) → All IsWritable (ts ++ t ∷ 
 writable-last ts t all =
     subst IsWritable (get_or-append_seam ts t [] t) (all (length ts) t (omega (arith, length-append ts (t ∷ []))))
 
--- the term of one of the expressions
-pub writable-at : (es : List Expr) (i : ℕ) (e : Expr) → i < length es → e ≡ get_or es i e → All IsWritable (terms_in es)
-    → IsWritable (term_of e)
-writable-at [] i e more is all = absurd (omega arith)
-writable-at (x ∷ es) zero e more is all = subst (λ y. IsWritable (term_of y)) (sym is) (all 0 (term_of e) (omega arith))
-writable-at (x ∷ es) (suc i) e more is all = writable-at es i e (omega arith) is (λ k d below. all (suc k) d (omega arith))
+-- the term of one of the bindings
+pub writable-at : (bs : List Binding) (i : ℕ) (b : Binding) → i < length bs → b ≡ get_or bs i b → All IsWritable (terms_under bs)
+    → IsWritable (term_under b)
+writable-at [] i b more is all = absurd (omega arith)
+writable-at (x ∷ bs) zero b more is all = subst (λ y. IsWritable (term_under y)) (sym is) (all 0 (term_under b) (omega arith))
+writable-at (x ∷ bs) (suc i) b more is all = writable-at bs i b (omega arith) is (λ k d below. all (suc k) d (omega arith))
 
 pub recorded_all-append : (ts us : List Term) (rest : List ℕ)
     → recorded_all (ts ++ us) rest ≡ recorded_all ts (recorded_all us rest)
@@ -79,6 +75,14 @@ have_inputs-split (t ∷ ts) us count both =
 -- one term alone
 pub have_inputs-one : (t : Term) (count : ℕ) → has_inputs t count ≡ true → have_inputs (t ∷ []) count ≡ true
 have_inputs-one t count has = and_from (has_inputs t count) true has refl
+
+-- bindings, and a term behind them
+pub have_inputs-bound : (bs : List Binding) (t : Term) (count : ℕ) → have_inputs (terms_under bs) count ≡ true
+    → has_inputs t (count + length bs) ≡ true → have_inputs (terms_under bs ++ t ∷ []) count ≡ true
+have_inputs-bound bs t count first last =
+    have_inputs-join (terms_under bs) (t ∷ []) count first
+    (have_inputs-one t (count + length (terms_under bs))
+    (subst (λ n. has_inputs t (count + n) ≡ true) (sym (length-map bs term_under)) last))
 
 -- of terms that numbers record some were read; the others, and what stands behind all, are left
 pub record IsLeft (done : List Term) (left : List ℕ) (inputs : ℕ) (ts : List Term) (rest : List ℕ) : Type 0 where

@@ -8,7 +8,9 @@ use Rattle.tensor_shape.specs.Legal.{are_legal, text_elements, most_elements}
 use Rattle.tensor_shape.specs.declared.bounds.Bounds.{Bounds}
 use Rattle.tensor_terms.specs.Contents.{Contents, Given}
 use Rattle.tensor_terms.specs.Term.{Term}
-use Rattle.expr_reader.specs.Bindings.{have_inputs}
+use Rattle.tensor_terms.specs.Tree.{term_of}
+use Rattle.expr_reader.specs.Bindings.{have_inputs, terms_under}
+use Rattle.expr_reader.specs.declared.outline.Outline.{Outline}
 use Rattle.prepared_expressions.specs.Recorded.{recorded_all, height_of, HasRanges}
 use Rattle.prepared_expressions.specs.declared.refusal.Refusal.{Refusal}
 use Rattle.prepared_expressions.specs.declared.refusal.Refusal.TheVariants.{OtherArrays}
@@ -86,6 +88,10 @@ prepared inputs bindings t = record {
   bindings = bindings;
   term = t;
 }
+
+-- what is prepared of an outline
+abbrev pub prepared_outline : Outline → Prepared
+prepared_outline o = prepared o.inputs (terms_under o.bindings.items) (term_of o.expr)
 
 -- one more tensor before the others, if they have no refusal
 abbrev pub before : Contents → Result (List Contents) Refusal → Result (List Contents) Refusal

@@ -6,8 +6,8 @@ ghost use Rattle.std.specs.Prelude.{◌≡◌, ◌≢◌, ◌⊎◌, ◌<◌, �
 ghost use Rattle.std.specs.Prelude.{IsTrue, IfOk, IfErr, OnOk, IfSome, IfNone};
 ghost use Rattle.expr_reader.specs.Arrays.{arrays_under};
 ghost use Rattle.tensor_shape.specs.Legal.{text_elements, most_elements, IsPossible};
-ghost use Rattle.prepared_expressions.specs.Filled.{IsFilled, IsFilledOf, prepared_under};
-ghost use Rattle.prepared_expressions.specs.Prepared.{record_of, recorded_dims};
+ghost use Rattle.prepared_expressions.specs.Filled.{IsFilled, IsFilledOf};
+ghost use Rattle.prepared_expressions.specs.Prepared.{prepared_outline, record_of, recorded_dims};
 ghost use Rattle.prepared_expressions.specs.Prepared.{dims_of_all, all_legal, form_of};
 ghost use Rattle.prepared_expressions.specs.Prepared.{Prepared, IsPrepared, IsRecordable};
 
@@ -16,8 +16,8 @@ use crate::filled::Filled;
 use crate::inputs::read_tensors;
 use crate::refusal::Refusal;
 use crate::tree::MAX_HEIGHT;
-use crate::written::{write_list, write_tree, write_trees};
-use expr_reader::Array;
+use crate::written::{write_bindings, write_list, write_tree};
+use expr_reader::{Array, KnownInputs, Outline};
 use std::alloc::Global;
 use tensor_shape::{Bounds, Dims, MAX_ELEMENTS, TEXT_ELEMENTS};
 use tensor_terms::Inputs;
@@ -29,34 +29,37 @@ const TEXT_FORM: u64 = 3;
 /// The form of a record whose tensors have at most [`MAX_ELEMENTS`] elements.
 const WIDE_FORM: u64 = 4;
 
-/// Writes the record of an expression over inputs and bindings. The values of the inputs are not
-/// part of it.
+/// Writes the record of an outline: of its expression over inputs and bindings.
 ///
 /// # Errors
 ///
 /// [`Refusal::TooLarge`] only if the expression does not fit in a record, or [`Refusal::NoMemory`].
-pub fn prepare(alloc: Global, filled: &Filled<'_>) -> Result<Vec<u64>, Refusal>
+pub fn prepare(alloc: Global, outline: &Outline<'_>) -> Result<Vec<u64>, Refusal>
     ensures numbers { IfOk result (λ numbers.
-        numbers.items ≡ record_of (prepared_under filled.now)) }
-    ensures prepared { IfOk result (λ numbers. IsPrepared (prepared_under filled.now)) }
-    ensures refused { IsPrepared (prepared_under filled.now)
+        numbers.items ≡ record_of (prepared_outline outline.now)) }
+    ensures prepared { IfOk result (λ numbers. IsPrepared (prepared_outline outline.now)) }
+    ensures refused { IsPrepared (prepared_outline outline.now)
         → IfErr result (λ f. f ≡ Refusal.NoMemory) }
 {
-    let bounds = filled.inputs.bounds();
+    let bounds = outline.inputs.bounds();
     let Some(form) = form_of(bounds) else {
         return Err(Refusal::TooLarge);
     };
-    let inputs = u64::from(filled.inputs.len());
-    let bindings = filled.bindings.len() as u64;
+    let inputs = u64::from(outline.inputs.len());
+    let bindings = outline.bindings.len() as u64;
     let mut numbers = Vec::from_slice(alloc, &[form, bounds.rank as u64, inputs, bindings])?;
-    write_dims(&mut numbers, &filled.inputs, bounds)?;
-    write_trees(alloc, &mut numbers, &filled.bindings)?;
-    write_tree(alloc, &mut numbers, &filled.expr, MAX_HEIGHT)?;
+    write_dims(&mut numbers, &outline.inputs, bounds)?;
+    write_bindings(alloc, &mut numbers, &outline.bindings)?;
+    write_tree(alloc, &mut numbers, &outline.expr, MAX_HEIGHT)?;
     Ok(numbers)
 }
 
 /// Appends the rank and the dims of each input.
-fn write_dims(numbers: &mut Vec<u64>, inputs: &Inputs<'_>, bounds: Bounds) -> Result<(), Refusal>
+fn write_dims(
+    numbers: &mut Vec<u64>,
+    inputs: &KnownInputs<'_>,
+    bounds: Bounds,
+) -> Result<(), Refusal>
     requires { IsPossible bounds }
     ensures numbers { OnOk result ((rest : List ℕ) → numbers.new.items ++ rest
         ≡ numbers.old.items ++ recorded_dims (dims_of_all inputs.now.tensors) rest) }
@@ -65,7 +68,7 @@ fn write_dims(numbers: &mut Vec<u64>, inputs: &Inputs<'_>, bounds: Bounds) -> Re
         → IfErr result (λ f. f ≡ Refusal.NoMemory) }
 {
     for number in 0..inputs.len() {
-        let sizes = inputs.get(number).dims().as_slice();
+        let sizes = inputs.dims(number).as_slice();
         let Ok(_) = Dims::within(bounds, sizes) else {
             return Err(Refusal::TooLarge);
         };

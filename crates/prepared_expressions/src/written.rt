@@ -3,7 +3,7 @@
 
 ghost use Rattle.std.specs.Prelude.{◌≡◌, ◌++◌, ◌∷◌, ◌≤◌, ℕ, List, length, IfOk, IfErr, OnOk};
 ghost use Rattle.std.specs.List.{All};
-ghost use Rattle.prepared_expressions.specs.Bindings.{terms_in};
+ghost use Rattle.expr_reader.specs.Bindings.{terms_under};
 ghost use Rattle.prepared_expressions.specs.Numbers.{headed, number_of};
 ghost use Rattle.prepared_expressions.specs.Prepared.{IsWritable};
 ghost use Rattle.prepared_expressions.specs.Recorded.{recorded, recorded_all, height_of};
@@ -16,6 +16,7 @@ ghost use Rattle.tensor_terms.specs.Tree.{term_of, unary_at, binary_at, movement
 use crate::kind::{BinaryKind, Kind, UnaryKind};
 use crate::refusal::Refusal;
 use crate::tree::MAX_HEIGHT;
+use expr_reader::Binding;
 use std::alloc::{AllocError, Global};
 use tensor_terms::{Binary, Expr, Movement, Node, Ternary, Unary};
 
@@ -66,20 +67,20 @@ pub(crate) fn write_tree(
     Ok(())
 }
 
-/// Appends the numbers of expressions, one after the other.
-pub(crate) fn write_trees(
+/// Appends the numbers of the expressions of bindings, one after the other.
+pub(crate) fn write_bindings(
     alloc: Global,
     numbers: &mut Vec<u64>,
-    exprs: &[Expr],
+    bindings: &[Binding],
 ) -> Result<(), Refusal>
     ensures numbers { OnOk result ((rest : List ℕ) → numbers.new.items ++ rest
-        ≡ numbers.old.items ++ recorded_all (terms_in exprs.now) rest) }
-    ensures writable { OnOk result (All IsWritable (terms_in exprs.now)) }
-    ensures refused { All IsWritable (terms_in exprs.now)
+        ≡ numbers.old.items ++ recorded_all (terms_under bindings.now) rest) }
+    ensures writable { OnOk result (All IsWritable (terms_under bindings.now)) }
+    ensures refused { All IsWritable (terms_under bindings.now)
         → IfErr result (λ f. f ≡ Refusal.NoMemory) }
 {
-    for expr in exprs {
-        write_tree(alloc, numbers, expr, MAX_HEIGHT)?;
+    for binding in bindings {
+        write_tree(alloc, numbers, &binding.expr, MAX_HEIGHT)?;
     }
     Ok(())
 }

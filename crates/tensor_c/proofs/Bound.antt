@@ -1,7 +1,7 @@
 -- What is known of the bindings of a request, each over all before it and over all.
 use Rattle.std.proofs.Common.{◌≡◌, ◌<◌, ◌≤◌, ◌+◌, ℕ, zero, suc, true, List, [], ◌∷◌, ◌++◌, length, take, get_or, IsOk}
 use Rattle.std.proofs.Common.{ap, sym, ◌∙◌, subst, arith, is_ok, append_assoc, length-append}
-use Rattle.std.proofs.lemmas.List.{append-nil, map_push, take_more}
+use Rattle.std.proofs.lemmas.List.{append-nil}
 use Rattle.tensor_ops.specs.Bounds.{Bounds}
 use Rattle.tensor_ops.proofs.Widening.{dims_of-wider}
 use Rattle.tensor_terms.proofs.MoreTensors.{has_inputs-more, dims_of-more}
@@ -10,23 +10,11 @@ use Rattle.expr_reader.specs.Contents.{Contents}
 use Rattle.expr_reader.specs.Legal.{widest, IsPossible}
 use Rattle.expr_reader.specs.Result.{dims_of}
 use Rattle.expr_reader.specs.Sequence.{worked_out}
-use Rattle.expr_reader.specs.Term.{Term, input, unary, binary, ternary, has_inputs, nodes_of}
+use Rattle.expr_reader.specs.Term.{Term, has_inputs, nodes_of}
 use Rattle.expr_reader.specs.Value.{tensor_of}
 use Rattle.expr_reader.specs.declared.binding.Binding.{Binding}
 use Rattle.prepared_expressions.specs.Bindings.{HaveDims}
 use Rattle.tensor_c.specs.Shared.{size_in, shared, shared_whole}
-
--- a term has a node
-pub some-nodes : (t : Term) → 1 ≤ nodes_of t
-some-nodes (input n) = omega arith
-some-nodes (unary o a) = omega arith
-some-nodes (binary o a b) = omega arith
-some-nodes (ternary o a b c) = omega arith
-
--- so there are no more bindings than nodes
-pub length-nodes : (bs : List Binding) → length bs ≤ nodes_in (terms_under bs)
-length-nodes [] = omega arith
-length-nodes (b ∷ bs) = omega (arith, length-nodes bs, some-nodes (term_under b))
 
 -- the nodes of a binding and of those before it are among all nodes
 pub nodes-binding : (bs : List Binding) (k : ℕ) (d : Binding) → k < length bs
@@ -35,13 +23,7 @@ nodes-binding [] k d below = absurd (omega arith)
 nodes-binding (b ∷ bs) zero d below = omega arith
 nodes-binding (b ∷ bs) (suc k) d below = omega (arith, nodes-binding bs k d (omega arith))
 
--- one binding more
-pub terms_under-take : (bs : List Binding) (k : ℕ) (b : Binding) → k < length bs → b ≡ get_or bs k b
-    → terms_under (take (k + 1) bs) ≡ terms_under (take k bs) ++ term_under b ∷ []
-terms_under-take bs k b more is =
-    ap terms_under (take_more bs k b more ∙ ap (λ x. take k bs ++ x ∷ []) (sym is))
-    ∙ map_push term_under (take k bs) b
-
+-- one term more
 pub nodes_in-push : (ts : List Term) (t : Term) → nodes_in (ts ++ t ∷ []) ≡ nodes_in ts + nodes_of t
 nodes_in-push [] t = omega arith
 nodes_in-push (u ∷ ts) t = omega (arith, nodes_in-push ts t)

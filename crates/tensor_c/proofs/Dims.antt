@@ -3,13 +3,14 @@ use Rattle.std.proofs.Common.{◌≡◌, ℕ, ℤ, List, [], ◌∷◌, ◌++◌
 use Rattle.std.proofs.lemmas.List.{map-append}
 use Rattle.std.specs.Result.{result_unwrap_or}
 use Rattle.tensor_ops.specs.Bounds.{Bounds}
+use Rattle.tensor_ops.proofs.Widening.{dims_of-wider}
 use Rattle.tensor_terms.proofs.MoreTensors.{dims_of-same_dims}
 use Rattle.expr_reader.specs.Alike.{HaveSameDims, AskAlike}
 use Rattle.expr_reader.specs.Contents.{Contents}
 use Rattle.expr_reader.specs.Frame.{request_of_frame}
-use Rattle.expr_reader.specs.Legal.{widest}
+use Rattle.expr_reader.specs.Legal.{widest, IsPossible}
 use Rattle.expr_reader.specs.Request.{Asked, tensors_of, asked_tensor}
-use Rattle.expr_reader.specs.Result.{shape_of}
+use Rattle.expr_reader.specs.Result.{dims_of, shape_of}
 use Rattle.expr_reader.specs.Sequence.{worked_out}
 use Rattle.expr_reader.specs.Term.{Term}
 use Rattle.expr_reader.specs.Value.{tensor_of}
@@ -17,6 +18,12 @@ use Rattle.expr_reader.specs.declared.fault.Fault.{Fault}
 use Rattle.expr_reader.proofs.SameDims.{AskAlike-frame}
 use Rattle.prepared_expressions.specs.Bindings.{HaveDims}
 use Rattle.tensor_c.specs.Answer.{or_fault, answer_dims}
+
+-- dims within bounds are the dims of the term's tensor
+pub shape_of-within : (bounds : Bounds) → IsPossible bounds → (t : Term) (ts : List Contents) (dims : List ℕ)
+    → dims_of bounds t ts ≡ Ok dims → shape_of t ts ≡ dims
+shape_of-within bounds possible t ts dims is =
+    ap (λ d. result_unwrap_or d []) ((dims_of-wider bounds possible t ts).same (ap is_ok is) ∙ is)
 
 -- a tensor of a term more, over tensors of the same dims
 same-more : (t : Term) (ts us : List Contents) → HaveSameDims ts us

@@ -9,15 +9,13 @@ use Rattle.expr_reader.specs.Value.{tensor_of}
 use Rattle.expr_reader.specs.declared.request.Request.{Request}
 use Rattle.expr_reader.proofs.Bindings.{AreBound-request}
 use Rattle.prepared_expressions.specs.Bindings.{terms_in, HaveDims}
-use Rattle.prepared_expressions.specs.Filled.{prepared_under, tensors_under}
+use Rattle.prepared_expressions.specs.Filled.{tensors_under}
 use Rattle.prepared_expressions.specs.Filled as filled
-use Rattle.prepared_expressions.specs.Prepared.{prepared}
 use Rattle.prepared_expressions.specs.declared.filled.Filled.{Filled}
-use Rattle.tensor_c.specs.Plan.{prepared_of}
 use Rattle.tensor_c.proofs.Bound.{HaveDims-bound}
 
 -- its terms have dims
-pub HaveDims-request : (r : Request)
+HaveDims-request : (r : Request)
     → HaveDims r.inputs.bounds (terms_under r.bindings.items ++ term_of r.expr ∷ []) r.inputs.tensors
 HaveDims-request r =
     HaveDims-bound r.inputs.bounds r.bindings.items (term_of r.expr) r.inputs.tensors (AreBound-request r) (ap is_ok r.has_dims)
@@ -39,9 +37,3 @@ module _ (r : Request) (f : Filled) (inputs : f.inputs ≡ r.inputs)
       ap (λ t. tensor_of t (tensors_under f)) expr
       ∙ ap (λ ts. tensor_of (term_of r.expr) (worked_out ts f.inputs.tensors)) bindings
       ∙ ap (λ i. tensor_of (term_of r.expr) (worked_out (terms_under r.bindings.items) i.tensors)) inputs
-
-  pub prepared-filled : prepared_under f ≡ prepared_of (asked_under r)
-  prepared-filled =
-      ap (λ i. prepared i (terms_in f.bindings.items) (term_of f.expr)) inputs
-      ∙ ap (λ ts. prepared r.inputs ts (term_of f.expr)) bindings
-      ∙ ap (λ t. prepared r.inputs (terms_under r.bindings.items) t) expr

@@ -2,9 +2,8 @@
 //! thread.
 
 ghost use Rattle.std.specs.Prelude.{◌≡◌, ◌⊎◌, ℤ, List, Ok, Err, length, false};
-ghost use Rattle.std.specs.Prelude.{MatchResult, IfOk, IfErr, IsErrOf, pos, replicate};
+ghost use Rattle.std.specs.Prelude.{MatchResult, IsErrOf};
 ghost use Rattle.expr_reader.specs.Asked.{asked_under};
-ghost use Rattle.expr_reader.specs.Frame.{request_of_frame};
 ghost use Rattle.expr_reader.specs.Request.{asked_tensor};
 ghost use Rattle.tensor_c.specs.Answer.{answer_of_frame, answer_dims};
 ghost use Rattle.tensor_c.specs.Call.{IsCall, IsTooLong, called, has_room, no_room};
@@ -12,9 +11,7 @@ ghost use Rattle.tensor_c.specs.Call.{IsCall, IsTooLong, called, has_room, no_ro
 use crate::asked::{dims_asked, filled_of};
 use crate::faults::result_of;
 use crate::room::{NO_ROOM, has_room, put_tensor};
-use expr_reader::{
-    Dims, Fault, MAX_TEXT, MAX_VALUES, Request, Tensor, WIDEST_VALUES, read_frame, values_limit,
-};
+use expr_reader::{Dims, Fault, Request, Tensor, read_frame, read_outline};
 use prepared_expressions::eval_filled;
 use std::alloc::Global;
 
@@ -70,35 +67,15 @@ fn tensor_asked(alloc: Global, request: Request<'_>) -> Result<Tensor<'static>, 
 }
 
 /// Returns the dims of the answer of a frame with `count` values. They do not depend on the values,
-/// so zeroes are read instead.
+/// so no value is read.
 pub(crate) fn dims_of(alloc: Global, header: &[u8], count: u64) -> Result<Dims, Fault>
     ensures dims { (values : List ℤ) → length values ≡ count → MatchResult result
         (λ dims. answer_dims header.now values ≡ Ok dims)
         (λ fault. (fault ≡ Fault.NoMemory) ⊎ (answer_dims header.now values ≡ Err fault)) }
     ensures too_long { IsTooLong header.now count → IsErrOf result Fault.TooLong }
 {
-    let zeroes = zeroes_for(alloc, header, count)?;
-    let request = read_frame(alloc, header, zeroes.as_slice())?;
-    Ok(dims_asked(&request).copied())
-}
-
-/// Allocates `count` zeroes to read instead of the values after a header. A header that is too
-/// long, or has too many values after it, is refused before that.
-pub(crate) fn zeroes_for(alloc: Global, header: &[u8], count: u64) -> Result<Vec<i64>, Fault>
-    ensures zeroes { IfOk result (λ zeroes. zeroes.items ≡ replicate count (pos 0)) }
-    ensures fault { IfErr result (λ fault. (fault ≡ Fault.NoMemory)
-        ⊎ ((values : List ℤ) → length values ≡ count
-        → request_of_frame header.now values ≡ Err fault)) }
-    ensures too_long { IsTooLong header.now count → IsErrOf result Fault.TooLong }
-{
-    if header.len() > MAX_TEXT || count > WIDEST_VALUES as u64 {
-        return Err(Fault::TooLong);
-    }
-    if count > MAX_VALUES as u64 && count > values_limit(alloc, header)? {
-        return Err(Fault::TooLong);
-    }
-    match Vec::from_elem(alloc, 0i64, count as usize) {
-        Ok(zeroes) => Ok(zeroes),
-        Err(_) => Err(Fault::NoMemory),
-    }
+    let outline = read_outline(alloc, header, count)?;
+    // Called for its clause: dims can go as far as the inputs' bounds.
+    let _limit = outline.inputs.bounds();
+    Ok(outline.dims)
 }

@@ -12,12 +12,10 @@ ghost use Rattle.tensor_c.specs.Part.{IsPartCall};
 ghost use Rattle.tensor_c.specs.Plan.{asked_over, plan_over, prepared_of, called_for_plan};
 ghost use Rattle.tensor_c.specs.Plan.{IsPlan, IsPlanCall, answer_of_plan, IsRefused};
 
-use crate::asked::filled_of;
-use crate::evaluation::zeroes_for;
 use crate::faults::{result_of, result_of_refusal};
 use crate::part::put_filled;
 use crate::room::{NO_ROOM, put_first};
-use expr_reader::{Array, Fault, read_frame};
+use expr_reader::{Array, Fault, read_outline};
 use prepared_expressions::{prepare, read_over};
 use std::alloc::Global;
 
@@ -33,8 +31,8 @@ pub(crate) fn put_plan(alloc: Global, header: &[u8], count: u64, plan: &mut [u64
     put_found_plan(plan_of(alloc, header, count), plan)
 }
 
-/// Returns the plan of a header with `count` values. The values are not part of a plan, so zeroes
-/// are read instead.
+/// Returns the plan of a header with `count` values. The values are not part of a plan, so none is
+/// read.
 fn plan_of(alloc: Global, header: &[u8], count: u64) -> Result<Vec<u64>, Fault>
     ensures numbers { MatchResult result
         (λ numbers. plan_over header.now count ≡ Ok numbers.items)
@@ -43,12 +41,8 @@ fn plan_of(alloc: Global, header: &[u8], count: u64) -> Result<Vec<u64>, Fault>
         → IsPlan (prepared_of a)) }
     ensures too_long { IsTooLong header.now count → IsErrOf result Fault.TooLong }
 {
-    let zeroes = zeroes_for(alloc, header, count)?;
-    let request = read_frame(alloc, header, zeroes.as_slice())?;
-    let Ok(filled) = filled_of(alloc, request) else {
-        return Err(Fault::NoMemory);
-    };
-    match prepare(alloc, &filled) {
+    let outline = read_outline(alloc, header, count)?;
+    match prepare(alloc, &outline) {
         Ok(numbers) => Ok(numbers),
         Err(_) => Err(Fault::NoMemory),
     }

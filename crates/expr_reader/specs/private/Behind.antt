@@ -1,6 +1,6 @@
 -- Where the code takes the values of tensors from. Private clauses cite this.
-use Rattle.std.specs.Prelude.{◌<◌, ◌≤◌, ℤ, ⊤, Bool, true, false, List, [], ◌∷◌, length}
-use Rattle.std.specs.Prelude.{drop, Option, None, Result}
+use Rattle.std.specs.Prelude.{◌<◌, ◌≤◌, ℤ, pos, ⊤, Bool, true, false, List, [], ◌∷◌, length}
+use Rattle.std.specs.Prelude.{drop, replicate, Option, None, Result}
 use Rattle.serde_json.specs.Data.{Data, Members}
 use Rattle.tensor_ops.specs.Contents.{Contents}
 use Rattle.expr_reader.specs.Arrays.{arrays_under, array_tensor, array_tensors, bad_array}
@@ -11,7 +11,7 @@ use Rattle.expr_reader.specs.Tensors.{tensor_in, tensors_in, bad_member, named_b
 use Rattle.expr_reader.specs.Profile.{Versions, profile_of, frame_profile_of}
 use Rattle.expr_reader.specs.Request.{Naming, Asked, data_asked}
 use Rattle.expr_reader.specs.declared.values.Values.{Values}
-use Rattle.expr_reader.specs.declared.values.Values.TheVariants.{InText, Behind, Apart}
+use Rattle.expr_reader.specs.declared.values.Values.TheVariants.{InText, Behind, Apart, Unread}
 
 -- the values that no tensor has yet: in the text, in a list after it, or in an array for each
 -- tensor
@@ -20,11 +20,12 @@ pub data Source : Type 0 where
   behind : List ℤ → Source
   apart : List (List ℤ) → Source
 
--- `Values` of the code, as a source
+-- `Values` of the code, as a source; values that are not read are zeroes
 abbrev pub source_of : Values → Source
 source_of InText = in_text
 source_of (Behind values) = behind values.now
 source_of (Apart arrays) = apart (arrays_under arrays.now)
+source_of (Unread count) = behind (replicate count (pos 0))
 
 -- the tensor of a member, with the values in the text or the first of the source
 abbrev pub tensor_by : Source → Bounds → Data → Option Contents

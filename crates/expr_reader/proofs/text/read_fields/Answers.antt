@@ -114,8 +114,4 @@ returns-clause-unbound c = λ text.
     bindings-none (profile_under c.in-Some.version) none n 0 (view c.args.fields.now.expr.now) tree.found tree.says_so in
     let terms : terms_under new.bindings.items ≡ [] =
     tree.bindings ∙ ap (λ l. terms_under l ++ tree.found.bindings) c.in_ok-named.ensures.unbound ∙ found in
-    record {
-      bindings = items-none new.bindings.items terms;
-      has_inputs = rw terms at tree.shaped.inputs_known;
-      has_dims = rw (ap (λ i. i.bounds) tree.inputs ∙ named.limit) (rw terms at tree.shaped.dims_known);
-    }
+    items-none new.bindings.items terms

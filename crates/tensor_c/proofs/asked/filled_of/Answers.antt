@@ -4,9 +4,9 @@ use Rattle.expr_reader.specs.Bindings.{term_under, terms_under, have_inputs}
 use Rattle.expr_reader.specs.Term.{has_inputs}
 use Rattle.expr_reader.specs.Tree.{term_of}
 use Rattle.expr_reader.specs.declared.binding.Binding.{Binding}
+use Rattle.expr_reader.proofs.Bindings.{some-nodes, length-nodes}
 use Rattle.prepared_expressions.specs.Bindings.{terms_in}
-use Rattle.prepared_expressions.proofs.TermLists.{have_inputs-join, have_inputs-one}
-use Rattle.tensor_c.proofs.Bound.{some-nodes, length-nodes}
+use Rattle.prepared_expressions.proofs.TermLists.{have_inputs-bound}
 use Rattle.tensor_c.proofs.asked.filled_of.Goals as goal
 
 terms-exprs : (bs : List Binding) → terms_in (map (λ b. b.expr) bs) ≡ terms_under bs
@@ -30,10 +30,7 @@ invariant_of-result-clause-have_inputs c =
     let r = c.args.request in
     subst (λ ts. have_inputs (ts ++ term_of r.expr ∷ []) (length r.inputs.tensors) ≡ true)
     (sym (ap terms_in c.in_ok-bindings.ensures ∙ terms-exprs r.bindings.items))
-    (have_inputs-join (terms_under r.bindings.items) (term_of r.expr ∷ []) (length r.inputs.tensors) r.have_inputs
-    (have_inputs-one (term_of r.expr) (length r.inputs.tensors + length (terms_under r.bindings.items))
-    (subst (λ n. has_inputs (term_of r.expr) (length r.inputs.tensors + n) ≡ true)
-    (sym (length-map r.bindings.items term_under)) r.has_inputs)))
+    (have_inputs-bound r.bindings.items (term_of r.expr) (length r.inputs.tensors) r.have_inputs r.has_inputs)
 
 pub returns-clause-bindings : goal.returns-clause-bindings
 returns-clause-bindings c = ap terms_in c.in_ok-bindings.ensures ∙ terms-exprs c.args.request.bindings.items

@@ -7,9 +7,9 @@ use Rattle.expr_reader.specs.Legal.{widest}
 use Rattle.expr_reader.specs.Request.{tensors_of}
 use Rattle.expr_reader.specs.Result.{dims_of}
 use Rattle.expr_reader.specs.Term.{has_inputs, nodes_of}
-use Rattle.expr_reader.proofs.Bindings.{AreBound-request}
+use Rattle.expr_reader.proofs.Bindings.{AreBound-request, terms_under-take}
 use Rattle.tensor_c.specs.Shared.{size_in, shared_whole}
-use Rattle.tensor_c.proofs.Bound.{nodes-binding, has_inputs-binding, dims-over_all, terms_under-take, nodes_in-push, shared_whole-push}
+use Rattle.tensor_c.proofs.Bound.{nodes-binding, has_inputs-binding, dims-over_all, nodes_in-push, shared_whole-push}
 use Rattle.tensor_c.proofs.shared.shared_whole.Goals as goal
 
 pub counted-requires-clause-inputs : goal.counted-requires-clause-inputs

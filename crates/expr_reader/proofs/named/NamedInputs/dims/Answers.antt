@@ -7,8 +7,7 @@ use Rattle.expr_reader.proofs.named.NamedInputs.dims.Goals as goal
 pub returns-then-number-count : goal.returns-then-number-count
 returns-then-number-count c = λ bounds n named.
     c.dims.ensures
-    ∙ ap (λ t. t.dims) (c.get.ensures
-    ∙ sym (worked_out-before (terms_under c.args.self.now.bindings.items) c.args.self.now.inputs.tensors c.args.number
+    ∙ ap (λ t. t.dims) (sym (worked_out-before (terms_under c.args.self.now.bindings.items) c.args.self.now.inputs.tensors c.args.number
     (omega (arith, c.len-count.ensures, c.if-number-count.true)))
     ∙ ap (λ ts. input_of ts c.args.number) named.tensors)
 
