@@ -18,8 +18,8 @@
    - Each pointer points to as many elements as its length says, aligned for their type. If the length
      is 0, the pointer may be null. No list has 2^63 bytes or more: the lengths of `values`, `out`,
      `dims` and `plan` are below 2^60, and the number of `arrays` is below 2^59.
-   - What a call writes (`out`, `dims`, `name`, and `plan` of tensor_prepare) overlaps nothing else
-     that the call is given. No other thread reads or writes it during the call. No thread writes what
+   - What a call writes (`out`, `dims`, `name`, `text`, and `plan` of tensor_prepare) overlaps nothing
+     else that the call is given. No other thread reads or writes it during the call. No thread writes what
      the call reads.
    - Any number of threads may call at the same time. A signal handler must not call. The forked child of
      a process with threads may call if it may call malloc, as with the GNU C library.
@@ -61,6 +61,9 @@ extern "C" {
 /* The most bytes of the name of a fault, including the 0 at its end. */
 #define TENSOR_NAME_ROOM 16
 
+/* The most bytes that tensor_explain writes about a header of this length, including the 0 at the end. */
+#define TENSOR_TEXT_ROOM(header_length) (1024 + 32 * (size_t)(header_length))
+
 /* The most numbers of a plan over `tensors` tensors. */
 #define TENSOR_PLAN_ROOM(tensors) (190004 + 9 * (size_t)(tensors))
 
@@ -68,7 +71,7 @@ extern "C" {
    two tensors less than a tenth. */
 #define TENSOR_STACK 1048576
 
-/* Returned if `out`, `dims`, `name` or `plan` is too short. */
+/* Returned if `out`, `dims`, `name`, `text` or `plan` is too short. */
 #define TENSOR_NO_ROOM (-100)
 
 /* Returned if the numbers of `plan` are not a plan. */
@@ -176,6 +179,19 @@ int64_t tensor_dims(const uint8_t *header, size_t header_length, uint64_t count,
 int64_t tensor_dims_of_arrays(const uint8_t *header, size_t header_length,
                               const struct tensor_array *arrays, size_t count,
                               uint64_t *dims, size_t dims_length);
+
+/* Writes lines about a frame with this header and `count` values, with a 0 at their end. If the frame has a
+   fault, the lines say its number and name, its place in the header, and the reason:
+
+     error 12 ShapeMismatch
+     at /expr/1: the operands of "add" must have the same dims; they have [2] and [3]
+
+   If it has none, the first line is `no fault`, and the next lines have the dimensions of the answer and the
+   steps of the evaluation. docs/REQUEST.md says more of the place. Returns how many bytes the lines have, or
+   TENSOR_NO_ROOM if `text` is too short. If an allocation fails, it returns -15. In the last two cases it
+   writes nothing. It reads no values, and allocates as much memory as `count` values take. */
+int64_t tensor_explain(const uint8_t *header, size_t header_length, uint64_t count,
+                       uint8_t *text, size_t text_length);
 
 /* Writes the name of the fault `number`, from 1 to 15, with a 0 at its end. Returns how many bytes the
    name has, 0 if no fault has this number, or TENSOR_NO_ROOM if `name` is too short. In the last two
@@ -352,6 +368,13 @@ static inline int64_t tensor_dims_of_arrays_nullable(
     return result;
 }
 
+static inline int64_t tensor_explain_nullable(const uint8_t *header, size_t header_length,
+                                              uint64_t count, uint8_t *text, size_t text_length)
+{
+    return tensor_explain((const uint8_t *)tensor_place(header, header_length), header_length,
+                          count, (uint8_t *)tensor_place(text, text_length), text_length);
+}
+
 static inline int64_t tensor_fault_name_nullable(uint32_t number, uint8_t *name, size_t name_length)
 {
     return tensor_fault_name(number, (uint8_t *)tensor_place(name, name_length), name_length);
@@ -365,6 +388,7 @@ static inline int64_t tensor_fault_name_nullable(uint32_t number, uint8_t *name,
 #define tensor_run(...) tensor_run_nullable(__VA_ARGS__)
 #define tensor_dims(...) tensor_dims_nullable(__VA_ARGS__)
 #define tensor_dims_of_arrays(...) tensor_dims_of_arrays_nullable(__VA_ARGS__)
+#define tensor_explain(...) tensor_explain_nullable(__VA_ARGS__)
 #define tensor_fault_name(...) tensor_fault_name_nullable(__VA_ARGS__)
 
 #ifdef __cplusplus

@@ -30,14 +30,36 @@ namespace tensor {
 /* The values of an array in the caller's memory, column-major. */
 using Values = std::span<const std::int64_t>;
 
-/* A fault of a frame: its number, and its name. Other refusals of the library have the numbers 100 and
-   101 of TENSOR_NO_ROOM and TENSOR_NO_PLAN. */
+/* A fault of a frame: its number, and its name. If the header is known, what() also says the place of the
+   fault in the header, and the reason. Other refusals of the library have the numbers 100 and 101 of
+   TENSOR_NO_ROOM and TENSOR_NO_PLAN. */
 class Fault : public std::runtime_error {
 public:
     explicit Fault(int number) : std::runtime_error(name(number)), number_(number) {}
+    Fault(int number, std::string_view header, std::uint64_t count)
+        : std::runtime_error(name(number) + reason(number, header, count)), number_(number)
+    {
+    }
     int number() const { return number_; }
 
 private:
+    /* The place and the reason of the fault with this number, which a header with `count` values has. */
+    static std::string reason(int number, std::string_view header, std::uint64_t count)
+    {
+        if (number >= -TENSOR_NO_MEMORY)
+            return "";
+        std::string text(TENSOR_TEXT_ROOM(header.size()), '\0');
+        const std::int64_t length =
+            tensor_explain(reinterpret_cast<const std::uint8_t *>(header.data()), header.size(), count,
+                           reinterpret_cast<std::uint8_t *>(text.data()), text.size());
+        text.resize(length < 0 ? 0 : static_cast<std::size_t>(length));
+        const std::size_t end = text.find('\n');
+        if (end == text.npos || !text.starts_with("error " + std::to_string(number) + " "))
+            return "";
+        text.pop_back();
+        return " " + text.substr(end + 1);
+    }
+
     static std::string name(int number)
     {
         if (number == -TENSOR_NO_ROOM)
@@ -68,6 +90,23 @@ inline std::size_t answered(std::int64_t result)
     if (result < 0)
         throw Fault(static_cast<int>(-result));
     return static_cast<std::size_t>(result);
+}
+
+/* The result of a call for a header with `count` values. */
+inline std::size_t answered(std::int64_t result, std::string_view header, std::uint64_t count)
+{
+    if (result < 0)
+        throw Fault(static_cast<int>(-result), header, count);
+    return static_cast<std::size_t>(result);
+}
+
+/* How many values arrays have together. */
+inline std::uint64_t count(std::span<const Values> arrays)
+{
+    std::uint64_t count = 0;
+    for (const Values &it : arrays)
+        count += it.size();
+    return count;
 }
 
 inline const std::uint8_t *bytes(std::string_view header)
@@ -115,7 +154,8 @@ inline void check_version()
 inline std::vector<std::uint64_t> dims(std::string_view header, std::uint64_t count)
 {
     std::uint64_t room[TENSOR_DIMS_ROOM];
-    detail::answered(tensor_dims(detail::bytes(header), header.size(), count, room, TENSOR_DIMS_ROOM));
+    detail::answered(tensor_dims(detail::bytes(header), header.size(), count, room, TENSOR_DIMS_ROOM),
+                     header, count);
     return {room + 1, room + 1 + room[0]};
 }
 
@@ -127,7 +167,8 @@ inline std::size_t evaluate_part(std::string_view header, std::span<const Values
     const auto lying = detail::lying(arrays);
     return detail::answered(tensor_evaluate_arrays(detail::bytes(header), header.size(),
                                                    lying.data(), lying.size(), first, out.data(),
-                                                   out.size()));
+                                                   out.size()),
+                            header, detail::count(arrays));
 }
 
 /* How many values each part of an answer computes again before its own first value. */
@@ -135,7 +176,8 @@ inline std::size_t shared(std::string_view header, std::span<const Values> array
 {
     const auto lying = detail::lying(arrays);
     return detail::answered(
-        tensor_shared(detail::bytes(header), header.size(), lying.data(), lying.size()));
+        tensor_shared(detail::bytes(header), header.size(), lying.data(), lying.size()), header,
+        detail::count(arrays));
 }
 
 /* Writes all values of the answer to `out`, which has room for exactly these, in `threads` parts, by the
@@ -147,7 +189,8 @@ inline void evaluate(std::string_view header, std::span<const Values> arrays,
     const std::size_t parts = std::max(threads, 1u);
     detail::answered(tensor_pool_evaluate_arrays(detail::pool(parts), detail::bytes(header), header.size(),
                                                  lying.data(), lying.size(), 0, out.data(), out.size(),
-                                                 parts));
+                                                 parts),
+                     header, detail::count(arrays));
 }
 
 /* An expression that is read and checked once, and evaluated over any arrays of its tensors' dims. */
@@ -157,11 +200,10 @@ public:
     Prepared(std::string_view header, std::span<const Values> arrays)
         : plan_(TENSOR_PLAN_ROOM(arrays.size()))
     {
-        std::uint64_t count = 0;
-        for (const Values &it : arrays)
-            count += it.size();
+        const std::uint64_t count = detail::count(arrays);
         plan_.resize(detail::answered(tensor_prepare(detail::bytes(header), header.size(), count,
-                                                     plan_.data(), plan_.size())));
+                                                     plan_.data(), plan_.size()),
+                                      header, count));
         plan_.shrink_to_fit();
     }
 

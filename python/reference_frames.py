@@ -90,6 +90,7 @@ class Functions:
         self.tensor_dims_of_arrays = over(self.dims_of_arrays)
         self.tensor_prepare = dims(self.prepare)
         self.tensor_run = arrays(self.run)
+        self.tensor_explain = dims(self.explain)
         self.tensor_fault_name = name(self.fault_name)
         self.tensor_version = ctypes.CFUNCTYPE(number)(lambda: VERSION)
         of_pool = ctypes.CFUNCTYPE(

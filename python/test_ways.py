@@ -14,7 +14,7 @@ import unittest.mock
 import tensor_client as client
 from tensor_client import Expr, tensor
 from tensor_client.explaining import explain
-from tensor_client.finding import EXPLAIN, TOP, Program, built, program_of
+from tensor_client.finding import TOP, Program, program_of
 from tensor_client.library import Library, library_named, library_of
 from tensor_client.requests import Settings, framed
 from asking import LINES, ONE, REFERENCE, WAYS, referring
@@ -39,7 +39,7 @@ class Shell(unittest.TestCase):
 
     def here(self, **names):
         """An environment that names no programs except these."""
-        variables = ("PROGRAM", "LINES", "FRAMES", "LIBRARY", "EXPLAIN")
+        variables = ("PROGRAM", "LINES", "FRAMES", "LIBRARY")
         none = {f"TENSOR_{it}": "" for it in variables}
         return unittest.mock.patch.dict(os.environ, {**none, **names})
 
@@ -207,44 +207,39 @@ class Failing(Shell):
         self.assertRaises(client.ProgramFailed, session.run, tensor(1))
 
 
-class Explained(Shell):
-    """Faults with the place and reason of the program that explains them."""
+class Explained(unittest.TestCase):
+    """Faults with the place and the reason that the library has for them."""
 
-    def told(self, lines, fault=None):
+    def told(self, lines, fault=None, **how):
         fault = fault or client.UnknownOp()
-        with self.here(TENSOR_EXPLAIN=self.program(lines)):
+        library = unittest.mock.Mock(explained=lambda asked: lines)
+        how = how or {"return_value": library}
+        with unittest.mock.patch("tensor_client.explaining.library_of", **how):
             explain(fault, tensor(1), Settings())
         return str(fault)
 
     def test_a_place_and_a_reason(self):
         said = "error 9 UnknownOp\nat /expr/0: no operation: div"
-        found = self.told(f"cat >/dev/null; echo '{said}'; exit 1")
+        found = self.told(said + "\n")
         self.assertEqual(found, "error 9 UnknownOp at /expr/0: no operation: div")
         fault = client.UnknownOp("why", "/expr/1")
         self.assertEqual(str(pickle.loads(pickle.dumps(fault))), str(fault))
         self.assertEqual(pickle.loads(pickle.dumps(fault)).place, "/expr/1")
 
     def test_what_says_nothing(self):
-        for lines in (
-            "cat >/dev/null; echo 'error 8 UnknownInput\nat /expr: no such'; exit 1",
-            "cat >/dev/null; echo no fault",
-            "exit 2",
-            "echo error",
-        ):
+        for lines in "error 8 UnknownInput\nat /expr: no such\n", "no fault\ndims []\n", "", "error":
             self.assertEqual(self.told(lines), "error 9 UnknownOp")
         said = "error 15 NoMemory\nat /expr: another"
-        self.assertEqual(self.told(f"echo '{said}'", client.NoMemory()), "error 15 NoMemory")
+        self.assertEqual(self.told(said, client.NoMemory()), "error 15 NoMemory")
         known = client.UnknownOp("why")
         said = "error 9 UnknownOp\nat /expr/0: another"
-        self.assertEqual(self.told(f"echo '{said}'", known), "error 9 UnknownOp: why")
+        self.assertEqual(self.told(said, known), "error 9 UnknownOp: why")
 
-    def test_no_program_that_says_it(self):
-        with self.here(TENSOR_EXPLAIN="/no/such/program"):
-            fault = client.UnknownOp()
-            explain(fault, tensor(1), Settings())
-            self.assertEqual(str(fault), "error 9 UnknownOp")
+    def test_no_library_that_says_it(self):
+        for how in {"return_value": None}, {"side_effect": client.ProgramFailed("no library")}:
+            self.assertEqual(self.told("", **how), "error 9 UnknownOp")
 
-    @unittest.skipUnless(built(EXPLAIN), "tensor_explain isn't built: no fault was explained")
+    @unittest.skipUnless(library_of(), "the library isn't built: no fault was explained")
     def test_as_it_is_built(self):
         with self.assertRaises(client.UnknownOp) as raised:
             client.run(Expr("div", [tensor(1), tensor(2)]))

@@ -6,6 +6,9 @@ spoilt, and of texts at the limits, the fault and the place have to be what fuzz
 the reason what fuzzing/reasons.py counts; the place has to be read back as JSON. A text without a fault
 has to have none, the dims of its result, and steps. Each request for memory is refused in turn, and
 streams fail or don't end. A new text is a case of that file, or of a function of LIMITS.
+
+Each frame of tests/cases/frame_explanations.cases has to have the lines below it. Frames of drawn texts have
+to have the fault and the place of their texts, and frames of version 3 the fault that they are answered by.
 """
 
 import json
@@ -19,6 +22,7 @@ import tempfile
 import pytest
 
 import request_cases
+from framing import SIZES, NoFrame, framed
 from fuzzing import grammar, places, reasons, spoiling
 from fuzzing.rules import FAULTS, MOST_BYTES
 from hostile import EXPLAIN_PROGRAM, NO_MEMORY, READ_FAULT, SECONDS, TOP, WRITE_FAULT
@@ -71,9 +75,9 @@ def see(text):
     assert reasons.is_true(text, value, fault, reason), shown
 
 
-def table():
-    """The texts of the table, each with what is printed of it: a blank line stands before each."""
-    with open(os.path.join(TOP, "tests", "cases", "explanations.cases"), "rb") as file:
+def table(name="explanations"):
+    """The texts of a table, each with what is printed of it: a blank line stands before each."""
+    with open(os.path.join(TOP, "tests", "cases", f"{name}.cases"), "rb") as file:
         cases = file.read().rstrip(b"\n").split(b"\n\n")[1:]
     return [it.split(b"\n", 1) for it in cases]
 
@@ -82,6 +86,21 @@ def table():
 def test_table(text, lines):
     assert explained(text) == (lines.decode() + "\n", "", int(not lines.startswith(b"no fault")))
     see(text)
+
+
+def head(header, count):
+    """The bytes of a frame without its values."""
+    return SIZES.pack(len(header), count) + header
+
+
+FRAMES = table("frame_explanations")
+
+
+@pytest.mark.parametrize("asked, lines", FRAMES, ids=[lines.split(b"\n")[-1].decode() for _, lines in FRAMES])
+def test_table_of_frames(asked, lines):
+    count, header = asked.split(b" ", 1)
+    fault = int(not lines.startswith(b"no fault"))
+    assert explained(head(header, int(count))) == (lines.decode() + "\n", "", fault)
 
 
 def test_faults_of_table():
@@ -188,6 +207,81 @@ def test_drawn(chunk, seed, pytestconfig):
         see(nearly(seed, number))
 
 
+def no_frame(text):
+    """The frame of a text, or None if there is none."""
+    try:
+        return framed(text)
+    except NoFrame:
+        return None
+
+
+@pytest.mark.parametrize("chunk", range(CHUNKS))
+def test_frames_of_drawn(chunk, seed, pytestconfig):
+    """A frame has the fault and the place of its text."""
+    for number in range(chunk, (pytestconfig.getoption("--count") or COUNT) // 4, CHUNKS):
+        text = nearly(seed, number)
+        asked, (_, fault, dims) = no_frame(text), places.find(text)
+        if asked is None or (fault and FAULTS[fault[0]] == "BadVersion"):
+            continue
+        lines, complaint, status = explained(asked)
+        shown = f"the frame of {text!r:.400} has {lines!r:.400}"
+        assert (complaint, status) == ("", int(fault is not None)), shown
+        if fault is None:
+            assert is_plan(lines, dims), shown
+        else:
+            number, steps = fault
+            prefix = f"error {number} {FAULTS[number]}\nat {places.shown(steps) or WHOLE}: "
+            assert lines.startswith(prefix) and lines.count("\n") == 2, f"{shown}, not {prefix}"
+
+
+def is_there(value, pointer):
+    """Whether a JSON pointer leads to a value in this one."""
+    for step in pointer.split("/")[1:]:
+        name = step.replace("~1", "/").replace("~0", "~")
+        try:
+            value = value[name] if isinstance(value, dict) else value[int(name)]
+        except (LookupError, TypeError, ValueError):
+            return False
+    return True
+
+
+def test_frames_of_version_3():
+    found = 0
+    for text, line in request_cases.cases_of(request_cases.VERSION_3):
+        asked = no_frame(text.encode())
+        if asked is None:
+            continue
+        first, second, *rest = explained(asked)[0].split("\n")
+        assert first == (line if line.startswith("error ") else "no fault"), text
+        if first == "no fault":
+            assert second == f"dims {json.dumps(json.loads(line)['dims'])}", text
+        else:
+            place, _, reason = second.removeprefix("at ").partition(": ")
+            header = asked[SIZES.size :][: SIZES.unpack_from(asked)[0]]
+            assert reason and rest == [""] and is_there(json.loads(header), place), text
+            found += 1
+    assert found > 10
+
+
+# Beginnings of a frame.
+CUT_OFF = {
+    "in the header": head(b"{}", 0)[:-1],
+    "in the count": head(b"{}", 0)[:12],
+    "behind the length": head(b"{}", 0)[:8],
+}
+
+
+@pytest.mark.parametrize("asked", CUT_OFF.values(), ids=CUT_OFF)
+def test_frames_that_end_early(asked):
+    assert explained(asked) == ("", READ_FAULT, 1)
+
+
+def test_long_headers():
+    long = head(b" " * (MOST_BYTES + 1), 0)
+    said = f"at {WHOLE}: a header may have at most {MOST_BYTES} bytes; this one has more\n"
+    assert explained(long) == (f"error 1 TooLong\n{said}", "", 1)
+
+
 def of_two(expr):
     return of_expr(expr, inputs='"a":{"dims":[2],"data":[1,2]},"b\\n":{"dims":[2,3],"data":[0,1,2,3,4,5]}')
 
@@ -209,6 +303,8 @@ TEXTS = {
     "too many values": of_two('["broadcast","a",[1048576]]'),
     "no fault": of_two('["sum",["contract","b\\n","b\\n",[[0,0]]],[0]]'),
     "too many nodes": of_expr(f'["add",{balanced(500)},["neg",{balanced(501)}]]'),
+    "a frame of a let": head(request('"a":{"dims":[2]}', '["let","b",["neg","a"],["cumsum","b",1]]', 3), 2),
+    "a frame without a fault": head(request('"a":{"dims":[2]}', '["cumsum","a",0]', 3), 2),
 }
 
 

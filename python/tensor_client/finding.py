@@ -30,11 +30,10 @@ class Program(NamedTuple):
         return f"{self.variable} isn't set, PATH has no {self.name}{here}"
 
 
-# The program of one request, the two of many requests, and the program that explains faults.
+# The program of one request, and the two of many requests.
 ONE = Program("TENSOR_PROGRAM", "tensor_run", os.path.join(TOP, "run"))
 LINES = Program("TENSOR_LINES", "tensor_lines", os.path.join(TOP, "lines"))
 FRAMES = Program("TENSOR_FRAMES", "tensor_frames", os.path.join(TOP, "frames"))
-EXPLAIN = Program("TENSOR_EXPLAIN", "tensor_explain", os.path.join(TOP, "explain"))
 
 LIBRARY_VARIABLE, LIBRARY = "TENSOR_LIBRARY", "libtensor.so"
 # The library in the repository, and the checksums of the release there.

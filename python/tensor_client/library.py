@@ -22,6 +22,7 @@ from .threads import FEWEST, parts_worth
 
 # Constants of include/tensor.h.
 NO_ROOM, DIMS_ROOM, NAME_ROOM, MOST_PARTS = -100, 9, 16, 256
+TEXT_ROOM, TEXT_ROOM_PER_BYTE = 1024, 32
 # Sizes for a plan, tried in turn: the first is enough for some hundred nodes.
 PLAN_ROOMS = 1 << 14, 1 << 18, 1 << 24
 POINTER, SIZE, NUMBER = ctypes.c_void_p, ctypes.c_size_t, ctypes.c_uint64
@@ -65,6 +66,7 @@ class Library:
             self.dims_of_arrays: Any = opened.tensor_dims_of_arrays
             self.prepare: Any = opened.tensor_prepare
             self.run_plan: Any = opened.tensor_run
+            self.explain: Any = opened.tensor_explain
             self.fault_name: Any = opened.tensor_fault_name
             self.pool_open: Any = opened.tensor_pool_open
             self.pool_run: Any = opened.tensor_pool_run
@@ -80,6 +82,7 @@ class Library:
             (self.dims_of_arrays, [POINTER, SIZE] * 3),
             (self.prepare, [POINTER, SIZE, NUMBER, POINTER, SIZE]),
             (self.run_plan, over),
+            (self.explain, [POINTER, SIZE, NUMBER, POINTER, SIZE]),
             (self.fault_name, [ctypes.c_uint32, POINTER, SIZE]),
             (self.pool_run, [POINTER, *over, SIZE]),
             (self.pool_evaluate, [POINTER, *over, SIZE]),
@@ -225,6 +228,15 @@ class Library:
         if NO_ROOM < count < 0:
             return self.fault(-count)
         return ProgramFailed(f"{self.path} returned {count}")
+
+    def explained(self, asked: Framed) -> str:
+        """Returns the lines about a frame: its first fault, and the place and the reason of the fault.
+        If the library has no memory for them, it returns no lines."""
+        header = asked.header
+        size = TEXT_ROOM + TEXT_ROOM_PER_BYTE * len(header)
+        room = ctypes.create_string_buffer(size)
+        self.explain(header, len(header), asked.size, room, size)
+        return room.value.decode(errors="replace")
 
     def fault(self, number: int) -> Fault:
         name = NAME()

@@ -31,6 +31,8 @@
 enum { SPARE = 3, SENTINEL = 77, MOST_RUNS = 10000, MOST_THREADS = 64, FROM_SYSTEM = 1 << 17 };
 /* How many numbers of a plan are spoilt at most, and how many frames' arrays a plan is run over. */
 enum { MOST_SPOILT = 400, MOST_MIXED = 50 };
+/* A header with fewer bytes gets all the room for its explanation. */
+enum { MOST_SHORT = 1 << 16 };
 
 struct frame {
     const uint8_t *header;
@@ -501,6 +503,43 @@ static void check_dims(const struct frame *it)
         fail("other dims of arrays");
 }
 
+/* Explains a frame in this room, of which it fills the first byte before. */
+static int64_t explained(const struct frame *it, uint8_t *text, size_t room)
+{
+    int64_t before = held;
+    text[0] = '?';
+    int64_t length = tensor_explain(it->header, it->header_length, it->values_length, text, room);
+    if (held != before)
+        fail("a call for an explanation keeps memory");
+    if (length < 0 && text[0] != '?')
+        fail("an explanation is written and refused");
+    return length;
+}
+
+/* Checks what is written about a frame: the line of its fault and the begin of the next line, or that it
+   has no fault. */
+static void check_explanation(const struct frame *it)
+{
+    size_t room = TENSOR_TEXT_ROOM(it->header_length < MOST_SHORT ? it->header_length : 0);
+    uint8_t *text = __real_malloc(room), name[TENSOR_NAME_ROOM] = {0};
+    char first[64] = "no fault\ndims [";
+    int64_t length = explained(it, text, room);
+    if (it->result < 0) {
+        tensor_fault_name((uint32_t)-it->result, name, sizeof name);
+        snprintf(first, sizeof first, "error %" PRId64 " %s\nat ", -it->result, (char *)name);
+    }
+    if (length < 0) {
+        if (length != -15 || !was_refused)
+            fail("no explanation");
+    } else if (strlen((char *)text) != (size_t)length || text[length - 1] != '\n'
+               || strncmp((char *)text, first, strlen(first))) {
+        fail("another explanation");
+    } else if (!was_refused && explained(it, text, (size_t)length) != TENSOR_NO_ROOM) {
+        fail("an explanation in too little room");
+    }
+    __real_free(text);
+}
+
 /* The first answer of a frame, whose dims were asked for before it. */
 static void first_answer(struct frame *it)
 {
@@ -513,6 +552,7 @@ static void first_answer(struct frame *it)
     if (it->result != count || memcmp(it->dims, dims, sizeof dims))
         fail("tensor_dims and tensor_evaluate differ");
     check_dims(it);
+    check_explanation(it);
     if (room > 0)
         too_little_room(it, room - 1);
 }
@@ -699,6 +739,7 @@ static void refuse_all(void)
         const struct frame *it = &frames[at];
         refusals += refuse_each(it, call_whole) + refuse_each(it, call_part);
         refusals += refuse_each(it, check_plan) + refuse_each(it, check_dims);
+        refusals += refuse_each(it, check_explanation);
         if (it->has_arrays)
             refusals += refuse_each(it, call_arrays) + refuse_each(it, check_shared);
         if (it->plan)

@@ -14,7 +14,7 @@
 
 #include "tensor.h"
 
-enum { PAINT = 0xA5, PAINTED = 8 << 20, MOST_ARRAYS = 64, ROOM = 64 };
+enum { PAINT = 0xA5, PAINTED = 8 << 20, MOST_ARRAYS = 64, ROOM = 64, TEXT_ROOM = 1 << 20 };
 
 /* The request, and where its answer and its plan are written. */
 static const uint8_t *header;
@@ -22,13 +22,17 @@ static size_t header_length, count, all;
 static struct tensor_array arrays[MOST_ARRAYS];
 static int64_t *values, out[ROOM];
 static uint64_t *plan, dims[TENSOR_DIMS_ROOM];
+static uint8_t text[TEXT_ROOM];
 static size_t plan_length;
 
-enum call { EVALUATE, PART, ARRAYS, SHARED, DIMS, DIMS_OF_ARRAYS, PREPARE, RUN, POOL_RUN, POOL_ARRAYS, CALLS };
+enum call {
+    EVALUATE, PART, ARRAYS, SHARED, DIMS, DIMS_OF_ARRAYS, PREPARE, EXPLAIN, RUN, POOL_RUN,
+    POOL_ARRAYS, CALLS,
+};
 
 static const char *const names[CALLS] = {
     "evaluate", "evaluate_part", "evaluate_arrays", "shared", "dims", "dims_of_arrays",
-    "prepare", "run", "pool_run", "pool_evaluate_arrays",
+    "prepare", "explain", "run", "pool_run", "pool_evaluate_arrays",
 };
 
 static int64_t prepare(void)
@@ -55,6 +59,8 @@ static int64_t result_of(enum call call)
         return tensor_dims_of_arrays(header, header_length, arrays, count, dims, TENSOR_DIMS_ROOM);
     case PREPARE:
         return prepare();
+    case EXPLAIN:
+        return tensor_explain(header, header_length, all, text, sizeof text);
     case RUN:
         return tensor_run(plan, plan_length, arrays, count, 0, out, ROOM);
     case POOL_RUN:

@@ -15,5 +15,6 @@ pub mod SameDims
 pub mod Tokens
 pub mod Trees
 pub mod Unread
+pub mod Valued
 pub mod Versions
 pub mod Walk

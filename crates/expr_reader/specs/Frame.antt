@@ -1,7 +1,8 @@
 -- What a frame asks for. A frame is a header, which is a text in which each tensor is an object of
 -- its dims alone, and the values after it. The values of the tensors follow one another in the
 -- order of the tensors' names.
-use Rattle.std.specs.Prelude.{ℕ, ℤ, nat_lt, nat_le, List, [], ◌∷◌, length, take, drop, codes}
+use Rattle.std.specs.Prelude.{◌≡◌, ◌⊎◌, ◌<◌, ◌≤◌, ℕ, ℤ, nat_lt, nat_le, List, [], ◌∷◌, length}
+use Rattle.std.specs.Prelude.{take, drop, codes}
 use Rattle.std.specs.Prelude.{Option, Some, None, option_map, option_and_then, Result, Err}
 use Rattle.std.specs.Prelude.{if◌then◌else◌}
 use Rattle.std.specs.Option.{option_map_or}
@@ -17,7 +18,7 @@ use Rattle.expr_reader.specs.Profile.{frame_profile_of}
 use Rattle.expr_reader.specs.Request.{Asked, text_asked, version_in}
 use Rattle.expr_reader.specs.Tensors.{Named, dims_in, named_by, or_place}
 use Rattle.expr_reader.specs.declared.fault.Fault.{Fault}
-use Rattle.expr_reader.specs.declared.fault.Fault.TheVariants.{TooLong}
+use Rattle.expr_reader.specs.declared.fault.Fault.TheVariants.{TooLong, NoMemory}
 
 -- the data of the field `dims`, in an object without other fields
 abbrev pub dims_alone : Data → Option Data
@@ -70,8 +71,19 @@ values_limit header =
     option_map_or (λ p. p.values)
     (option_and_then frame_profile_of (option_and_then version_in (reading header))) most_values
 
+-- why a header with `count` values after it is refused: an allocation failed, there are more than
+-- `most` values, or it is not the data of a text
+abbrev pub IsRefused : {A : Type 0} → Fault → ℕ → ℕ → Result A Located → Type 0
+IsRefused fault most count says =
+    (fault ≡ NoMemory) ⊎ (((fault ≡ TooLong) × (most < count))
+    ⊎ ((count ≤ most) × (says ≡ Err (here fault))))
+
+-- the request of a frame, or its first fault and where it is
+abbrev pub frame_at : List ℕ → List ℤ → Result Asked Located
+frame_at header values =
+    if nat_lt (values_limit header) (length values) then Err (here TooLong)
+    else text_asked frame_profile_of (frame_inputs values) header
+
 -- the request of a frame, or its first fault
 abbrev pub request_of_frame : List ℕ → List ℤ → Result Asked Fault
-request_of_frame header values =
-    unlocated (if nat_lt (values_limit header) (length values) then Err (here TooLong)
-    else text_asked frame_profile_of (frame_inputs values) header)
+request_of_frame header values = unlocated (frame_at header values)

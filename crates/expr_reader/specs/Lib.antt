@@ -29,4 +29,5 @@ pub mod Request
 pub mod Steps
 pub mod Table
 pub mod Tensors
+pub mod Valued
 pub mod private

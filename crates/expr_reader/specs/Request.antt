@@ -72,11 +72,10 @@ module _ (versions : Versions) (named : Naming) where
   abbrev pub data_asked : Data → Result Asked Located
   data_asked d = and_then (ok_or (fields_of d) (here BadField)) fields_asked
 
--- what data asks for, with another expression in place of its own
-abbrev pub part_asked : Data → Data → Result Asked Located
-part_asked d expr =
-    and_then (ok_or (fields_of d) (here BadField))
-    (λ f. fields_asked profile_of inputs_in (record f { expr = expr }))
+  -- what data asks for, with another expression in place of its own
+  abbrev pub part_asked : Data → Data → Result Asked Located
+  part_asked d expr =
+      and_then (ok_or (fields_of d) (here BadField)) (λ f. fields_asked (record f { expr = expr }))
 
 -- the data of a text, if the text is not too long and is JSON
 abbrev pub data_of : List ℕ → Result Data Located

@@ -39,9 +39,10 @@ pub use place::{Indices, Located, MAX_DEPTH, Place};
 pub use request::{Parsed, Request};
 pub use tensor_ops::{Dims, Expr, Inputs, Tensor};
 pub use text::{
-    locate, parse_request, read_arrays, read_frame, read_outline, read_part, read_request,
-    values_limit,
+    locate, parse_header, parse_request, read_arrays, read_frame, read_outline, read_part,
+    read_request, values_limit,
 };
+pub use values::Values;
 
 /// The largest number of bytes of a text or a header.
 pub const MAX_TEXT: usize = 16_777_216;

@@ -10,18 +10,19 @@ ghost use Rattle.expr_reader.specs.Arrays.{arrays_under, joined, request_of_arra
 ghost use Rattle.expr_reader.specs.Asked.{asked_under, IsUnbound};
 ghost use Rattle.expr_reader.specs.private.Behind.{in_text, source_of, naming_by, versions_by, asked_by};
 ghost use Rattle.expr_reader.specs.private.Counted.{member_count};
-ghost use Rattle.expr_reader.specs.Frame.{request_of_frame, values_limit};
+ghost use Rattle.expr_reader.specs.Frame.{request_of_frame, values_limit, IsRefused};
 ghost use Rattle.expr_reader.specs.Limits.{most_bytes, most_values, widest_values};
 ghost use Rattle.expr_reader.specs.Located.{steps_under, located_under};
 ghost use Rattle.expr_reader.specs.Expression.{expression_at};
 ghost use Rattle.expr_reader.specs.Outline.{outlined};
-ghost use Rattle.expr_reader.specs.private.Outcome.{IsToldAt, IsRefused};
+ghost use Rattle.expr_reader.specs.private.Outcome.{IsToldAt};
 ghost use Rattle.expr_reader.specs.Place.{field, here, below, unlocated};
-ghost use Rattle.expr_reader.specs.Profile.{profile_of, frame_profile_of};
-ghost use Rattle.expr_reader.specs.Request.{profile_in, fields_asked, data_asked, part_asked};
+ghost use Rattle.expr_reader.specs.Profile.{frame_profile_of};
+ghost use Rattle.expr_reader.specs.Request.{profile_in, fields_asked};
 ghost use Rattle.expr_reader.specs.Request.{data_of, request_of, version_in};
 ghost use Rattle.expr_reader.specs.private.Shown.{fields_under, IsNamed};
-ghost use Rattle.expr_reader.specs.Tensors.{Named, inputs_in};
+ghost use Rattle.expr_reader.specs.Tensors.{Named};
+ghost use Rattle.expr_reader.specs.Valued.{asked_from, part_from};
 ghost use Rattle.expr_reader.specs.private.Version.{profile_under, versions_under};
 ghost use Rattle.expr_reader.specs.private.Walked.{IsBehind};
 
@@ -184,8 +185,13 @@ fn values_of(header: &Value) -> usize
     }
 }
 
-/// Parses a header that has `count` values after it.
-fn parse_header(alloc: Global, header: &[u8], count: usize) -> Result<Parsed, Fault>
+/// Parses a header that has `count` values after it. A fault found here is a fault of the whole
+/// frame. A header that is too long, or has more values than any version allows, allocates nothing.
+///
+/// # Errors
+///
+/// [`Fault::TooLong`], [`Fault::NotJson`] or [`Fault::NoMemory`].
+pub fn parse_header(alloc: Global, header: &[u8], count: usize) -> Result<Parsed, Fault>
     ensures value { MatchResult result
         (λ parsed. (data_of header.now ≡ Ok (view parsed.value)) × (count ≤ values_limit header.now))
         (λ fault. IsRefused fault (values_limit header.now) count (data_of header.now)) }
@@ -222,39 +228,49 @@ pub fn parse_request(alloc: Global, text: &[u8]) -> Result<Parsed, Fault>
     Ok(Parsed { value })
 }
 
-/// Returns the first fault of a request text and its place, or `None` if it has none. It reads the
-/// value as [`read_request`] does, so the fault is the one that [`read_request`] returns.
-pub fn locate(alloc: Global, parsed: &Parsed) -> Option<Located<'_>>
-    ensures { MatchOption result (IsOk (data_asked profile_of inputs_in (view parsed.now.value)))
+/// Returns the first fault of a request with these values and its place, or `None` if it has none.
+/// It reads the value as [`read_request`], [`read_frame`] and [`read_arrays`] do, so the fault is
+/// the one that they return.
+#[tactic(auto, using(crate::proofs::Valued::asked_as_by))]
+pub fn locate<'v>(alloc: Global, parsed: &'v Parsed, values: Values<'_>) -> Option<Located<'v>>
+    ensures { MatchOption result (IsOk (asked_from values.entry (view parsed.now.value)))
         (λ found. (found.fault ≡ Fault.NoMemory)
-        ⊎ (data_asked profile_of inputs_in (view parsed.now.value) ≡ Err (located_under found))) }
+        ⊎ (asked_from values.entry (view parsed.now.value) ≡ Err (located_under found))) }
 {
     let mut place = Place::Whole;
-    match read_value(alloc, &parsed.value, Values::InText, &mut place) {
+    match read_value(alloc, &parsed.value, values, &mut place) {
         Ok(_) => None,
         Err(fault) => Some(Located { fault, place }),
     }
 }
 
-/// Reads the request of a parsed text, with `expr` in place of its own expression. `fault_reasons`
-/// uses it to find the dims of an operand.
+/// Reads the request of a parsed text or header with these values, with `expr` in place of its own
+/// expression. `fault_reasons` uses it to find the dims of an operand.
 ///
 /// # Errors
 ///
 /// The first fault of that request, or [`Fault::NoMemory`].
-pub fn read_part(alloc: Global, parsed: &Parsed, expr: &Value) -> Result<Request<'static>, Fault>
+#[tactic(auto, using(crate::proofs::Valued::fields_as_by))]
+pub fn read_part<'a>(
+    alloc: Global,
+    parsed: &Parsed,
+    values: Values<'a>,
+    expr: &Value,
+) -> Result<Request<'a>, Fault>
     ensures request { MatchResult result
-        (λ request. part_asked (view parsed.now.value) (view expr.now) ≡ Ok (asked_under request))
+        (λ request. part_from values.entry (view parsed.now.value) (view expr.now)
+        ≡ Ok (asked_under request))
         (λ fault. (fault ≡ Fault.NoMemory)
-        ⊎ (unlocated (part_asked (view parsed.now.value) (view expr.now)) ≡ Err fault)) }
-    ensures unbound { IfOk result IsUnbound }
+        ⊎ (unlocated (part_from values.entry (view parsed.now.value) (view expr.now))
+        ≡ Err fault)) }
+    ensures unbound { values.entry ≡ Values.InText → IfOk result IsUnbound }
 {
     let Some(fields) = Fields::of(&parsed.value) else {
         return Err(Fault::BadField);
     };
     let fields = Fields { expr, ..fields };
     let mut place = Place::Whole;
-    let outline = read_fields(alloc, &fields, Values::InText, &mut place)?;
+    let outline = read_fields(alloc, &fields, values, &mut place)?;
     outline.into_request(alloc)
 }
 

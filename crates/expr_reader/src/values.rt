@@ -16,12 +16,16 @@ use serde_json::Value;
 use std::alloc::Global;
 use tensor_ops::Bounds;
 
-/// Where the values are that still belong to no tensor. Of unread values only the number is known.
+/// Where the values are that still belong to no tensor.
 #[derive(Clone, Copy)]
-pub(crate) enum Values<'a> {
+pub enum Values<'a> {
+    /// In the text, each in the `data` of its tensor.
     InText,
+    /// In a list after a header, in the order of the tensors' names.
     Behind(&'a [i64]),
+    /// In an array for each tensor, in the order of the tensors' names.
     Apart(&'a [Array<'a>]),
+    /// Nowhere: only their number is known. A contract sees them as zeroes after a header.
     Unread(usize),
 }
 

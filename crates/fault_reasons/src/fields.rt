@@ -2,6 +2,8 @@
 //! limits of texts, written here again: a new version or limit of `expr_reader` changes them too.
 
 use crate::found::{found, quoted};
+use crate::source::Source;
+use expr_reader::{MAX_BLOCK, WIDEST_BLOCK};
 use serde_json::Value;
 use std::alloc::{AllocError, Global};
 
@@ -30,10 +32,19 @@ pub(crate) fn why_fields(alloc: Global, value: &Value) -> Result<String, AllocEr
     format!(in alloc; "a request has five fields")
 }
 
-/// Says why a value is not a version of a text.
-pub(crate) fn why_version(alloc: Global, value: &Value) -> Result<String, AllocError> {
+/// Says why a value is not a version of a text, or of a header.
+pub(crate) fn why_version(
+    alloc: Global,
+    source: Source<'_, '_>,
+    value: &Value,
+) -> Result<String, AllocError> {
+    let versions = if source.is_text() {
+        "1 or 2"
+    } else {
+        "1, 2 or 3"
+    };
     let what = found(alloc, value)?;
-    format!(in alloc; "version must be 1 or 2; this is {what}")
+    format!(in alloc; "version must be {versions}; this is {what}")
 }
 
 /// Says why a value is not a number of workers in this version.
@@ -49,8 +60,13 @@ pub(crate) fn why_workers(
     )
 }
 
-/// Says why a value is not a block.
-pub(crate) fn why_block(alloc: Global, value: &Value) -> Result<String, AllocError> {
+/// Says why a value is not a block in this version.
+pub(crate) fn why_block(alloc: Global, version: u64, value: &Value) -> Result<String, AllocError> {
+    let most = if version == 3 {
+        WIDEST_BLOCK
+    } else {
+        MAX_BLOCK
+    };
     let what = found(alloc, value)?;
-    format!(in alloc; "block must be a whole number from 1 to 1048576; this is {what}")
+    format!(in alloc; "block must be a whole number from 1 to {most}; this is {what}")
 }

@@ -64,7 +64,7 @@ pub(crate) fn why_broadcast(
     let mut sizes = Vec::new(alloc);
     for (axis, (count, size)) in counts.iter().zip(dims.iter()).enumerate() {
         let Some(repeated) = count.checked_mul(*size) else {
-            return past_words(alloc, axis);
+            return past_words(alloc, version, axis);
         };
         sizes.push(repeated)?;
     }
@@ -198,7 +198,7 @@ pub(crate) fn why_pad(
             return Ok(None);
         };
         let Some(padded) = sum_of(*size, pair.as_slice()) else {
-            return past_words(alloc, axis);
+            return past_words(alloc, version, axis);
         };
         sizes.push(padded)?;
     }

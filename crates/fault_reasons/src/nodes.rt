@@ -2,7 +2,9 @@
 //! takes is in `operations.rt`.
 
 use crate::found::{found, quoted};
+use crate::lets::{LET, let_elements, why_let, why_let_name};
 use crate::operations::{Form, Operation, known_operation};
+use crate::source::Source;
 use serde_json::Value;
 use std::alloc::{AllocError, Global};
 
@@ -12,12 +14,17 @@ const MOST_NAMES: usize = 5;
 /// Says that no input has this name, and which names there are.
 pub(crate) fn why_input(
     alloc: Global,
-    inputs: Option<&Value>,
+    source: Source<'_, '_>,
     value: &Value,
 ) -> Result<String, AllocError> {
     let name = quoted(alloc, value.as_str().unwrap_or(""))?;
-    let names = names(alloc, inputs)?;
-    format!(in alloc; "no input is named {name}: {names}")
+    let names = names(alloc, source.root().get("inputs"))?;
+    let which = if source.version() == 3 {
+        "no input or earlier \"let\""
+    } else {
+        "no input"
+    };
+    format!(in alloc; "{which} is named {name}: {names}")
 }
 
 /// Lists the names of the inputs, or the first of them.
@@ -45,9 +52,10 @@ fn names(alloc: Global, inputs: Option<&Value>) -> Result<String, AllocError> {
 /// Says why the first element of a node is not an operation of this version.
 pub(crate) fn why_operation(
     alloc: Global,
-    version: u64,
+    source: Source<'_, '_>,
     value: &Value,
 ) -> Result<String, AllocError> {
+    let version = source.version();
     let Some(name) = value.as_str() else {
         let what = found(alloc, value)?;
         return format!(in alloc;
@@ -55,11 +63,18 @@ pub(crate) fn why_operation(
         );
     };
     let shown = quoted(alloc, name)?;
+    if !source.is_text() && name == LET {
+        return why_let(alloc, version);
+    }
     if let Some(operation) = known_operation(name) {
         let first = operation.version;
-        let whose = if first == 3 { " (frames only)" } else { "" };
+        let (whose, what) = match (source.is_text(), first) {
+            (true, 3) => (" (frames only)", "text"),
+            (true, _) => ("", "text"),
+            (false, _) => ("", "header"),
+        };
         return format!(in alloc;
-            "{shown} is an operation of version {first}{whose}; this is a text of version {version}"
+            "{shown} is an operation of version {first}{whose}; this is a {what} of version {version}"
         );
     }
     match near(name) {
@@ -98,10 +113,14 @@ pub(crate) fn why_node(alloc: Global, value: &Value) -> Result<String, AllocErro
 
 /// Says how many elements a node should have after the name of its operation, and how many it has.
 pub(crate) fn why_arity(alloc: Global, value: &Value) -> Result<String, AllocError> {
-    let Some((name, operation, count)) = node(value) else {
+    let (name, takes, count) = if let Some(elements) = let_elements(value) {
+        let takes = format!(in alloc; "a name and then two expressions")?;
+        (LET, takes, elements.len())
+    } else if let Some((name, operation, count)) = node(value) {
+        (name, takes(alloc, &operation)?, count)
+    } else {
         return why_node(alloc, value);
     };
-    let takes = takes(alloc, &operation)?;
     let elements = if count == 1 {
         "element follows"
     } else {
@@ -140,6 +159,9 @@ pub(crate) fn why_argument(
     index: usize,
     value: &Value,
 ) -> Result<String, AllocError> {
+    if let_elements(node_value).is_some() {
+        return why_let_name(alloc, value);
+    }
     let Some((name, operation, _)) = node(node_value) else {
         return why_node(alloc, node_value);
     };

@@ -1,6 +1,7 @@
 //! Finds what is at a place of a request's JSON value. A place comes from `expr_reader`, whose walk
 //! counts nodes as `nodes_before` does here.
 
+use crate::lets::let_elements;
 use crate::operations::known_operation;
 use expr_reader::Place;
 use serde_json::Value;
@@ -56,11 +57,12 @@ pub(crate) fn nodes_before(root: &Value, place: &Place<'_>) -> u64 {
     nodes
 }
 
-/// Returns how many nodes the operands before this index have.
+/// Returns how many nodes the operands before this index have. The name that a `let` gives is none.
 fn nodes_left(value: &Value, index: usize) -> u64 {
+    let first = if let_elements(value).is_some() { 2 } else { 1 };
     let mut nodes = 0u64;
     if let Some(elements) = value.as_array() {
-        for operand in elements.iter().take(index).skip(1) {
+        for operand in elements.iter().take(index).skip(first) {
             nodes = nodes.saturating_add(nodes_in(operand));
         }
     }

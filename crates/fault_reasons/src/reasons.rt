@@ -5,38 +5,41 @@ use crate::fields::{why_block, why_fields, why_version, why_workers};
 use crate::nodes::{why_argument, why_arity, why_input, why_node, why_operation};
 use crate::operations::known_operation;
 use crate::places::{above, nodes_before, value_at};
-use crate::shapes::{Call, why_shapes};
-use crate::tensors::{why_inputs, why_tensor};
-use expr_reader::{Fault, Located, MAX_NODES, Parsed, Place};
+use crate::shapes::{Call, dims_of_each, why_shapes, why_unfit};
+use crate::source::Source;
+use crate::tensors::{why_header_tensor, why_inputs, why_tensor};
+use expr_reader::{Fault, Located, MAX_NODES, Place, WIDEST_NODES};
 use serde_json::Value;
 use std::alloc::{AllocError, Global};
 
-/// Says why a text has this fault at this place.
+/// Says why a text or a header has this fault at this place.
 pub(crate) fn why(
     alloc: Global,
-    parsed: &Parsed,
+    source: Source<'_, '_>,
     located: &Located<'_>,
 ) -> Result<String, AllocError> {
-    let root = &parsed.value;
-    let version = root.get("version").and_then(Value::as_u64).unwrap_or(1);
+    let (root, version) = (source.root(), source.version());
     let Some(value) = value_at(root, &located.place) else {
         return format!(in alloc; "{}", located.fault);
     };
     match located.fault {
         Fault::BadField => why_fields(alloc, value),
-        Fault::BadVersion => why_version(alloc, value),
+        Fault::BadVersion => why_version(alloc, source, value),
         Fault::BadWorkers => why_workers(alloc, version, value),
-        Fault::BadBlock => why_block(alloc, value),
+        Fault::BadBlock => why_block(alloc, version, value),
         Fault::BadTensor => match located.place {
-            Place::Input(_) => why_tensor(alloc, version, value),
-            _ => why_inputs(alloc, value),
+            Place::Input(_) if source.is_text() => why_tensor(alloc, version, value),
+            Place::Input(name) => why_header_tensor(alloc, source, name, value),
+            _ => why_inputs(alloc, source, value),
         },
-        Fault::UnknownInput => why_input(alloc, root.get("inputs"), value),
+        Fault::UnknownInput => why_input(alloc, source, value),
         Fault::BadArity => why_arity(alloc, value),
-        Fault::UnknownOp | Fault::BadArgument => why_element(alloc, version, root, located, value),
-        Fault::TooLarge if nodes_before(root, &located.place) >= MAX_NODES => why_too_many(alloc),
+        Fault::UnknownOp | Fault::BadArgument => why_element(alloc, source, located, value),
+        Fault::TooLarge if nodes_before(root, &located.place) >= most_nodes(version) => {
+            why_too_many(alloc, version)
+        }
         Fault::ShapeMismatch | Fault::OutOfRange | Fault::TooLarge => {
-            why_checks(alloc, parsed, version, value)
+            why_checks(alloc, source, &located.place, value)
         }
         fault => format!(in alloc; "{fault}"),
     }
@@ -45,13 +48,12 @@ pub(crate) fn why(
 /// Says why an element of a node is not an operation or an argument, or why a value is not a node.
 fn why_element(
     alloc: Global,
-    version: u64,
-    root: &Value,
+    source: Source<'_, '_>,
     located: &Located<'_>,
     value: &Value,
 ) -> Result<String, AllocError> {
-    match (located.fault, above(root, &located.place)) {
-        (Fault::UnknownOp, Some((_, 0))) => why_operation(alloc, version, value),
+    match (located.fault, above(source.root(), &located.place)) {
+        (Fault::UnknownOp, Some((_, 0))) => why_operation(alloc, source, value),
         (Fault::BadArgument, Some((node, index))) => why_argument(alloc, node, index, value),
         _ => why_node(alloc, value),
     }
@@ -60,8 +62,8 @@ fn why_element(
 /// Says why the dims or arguments of a node fail its operation's checks.
 fn why_checks(
     alloc: Global,
-    parsed: &Parsed,
-    version: u64,
+    source: Source<'_, '_>,
+    place: &Place<'_>,
     node: &Value,
 ) -> Result<String, AllocError> {
     let Some([head, elements @ ..]) = node.as_array().map(Vec::as_slice) else {
@@ -73,14 +75,32 @@ fn why_checks(
     };
     let (operands, arguments) = elements.split_at(operation.operands.min(elements.len()));
     let call = Call {
-        version,
+        version: source.version(),
         name,
         arguments,
     };
-    why_shapes(alloc, parsed, call, operands)
+    let way = match place {
+        Place::Node(indices) => indices.as_slice(),
+        Place::Whole | Place::Field(_) | Place::Input(_) => &[],
+    };
+    match dims_of_each(alloc, source, way, operands)? {
+        Some(dims) => why_shapes(alloc, call, dims.as_slice()),
+        None => why_unfit(alloc, call),
+    }
 }
 
-/// Says that a node is one more than an expression may have.
-fn why_too_many(alloc: Global) -> Result<String, AllocError> {
-    format!(in alloc; "this is the 1001st node; an expression may have at most {MAX_NODES}")
+/// Returns the largest number of nodes of an expression in a version.
+fn most_nodes(version: u64) -> u64 {
+    if version == 3 {
+        WIDEST_NODES
+    } else {
+        MAX_NODES
+    }
+}
+
+/// Says that a node is one more than an expression of this version may have.
+fn why_too_many(alloc: Global, version: u64) -> Result<String, AllocError> {
+    let most = most_nodes(version);
+    let number = most.saturating_add(1);
+    format!(in alloc; "this is the {number}st node; an expression may have at most {most}")
 }

@@ -1,16 +1,19 @@
 //! Reasons for the faults ShapeMismatch, OutOfRange and TooLarge of a node. The operands are read
 //! again for their dims; `movements.rt` and `pairs.rt` have the reasons of single operations.
 
+use crate::along::{why_along, why_take};
+use crate::lets::inside_lets;
 use crate::movements::{
     why_broadcast, why_chip, why_lengths, why_order, why_pad, why_reshape, why_slice, why_steps,
 };
 use crate::pairs::{why_concat, why_contract, why_convolve};
 use crate::sizes::{sizes_in, why_axes};
-use expr_reader::{Dims, Fault, Parsed, read_part};
+use crate::source::Source;
+use expr_reader::{Dims, Fault, read_part};
 use serde_json::Value;
 use std::alloc::{AllocError, Global};
 
-/// The operation of a node by its name, its arguments, and the version of the text.
+/// The operation of a node by its name, its arguments, and the version of the request.
 #[derive(Clone, Copy)]
 pub(crate) struct Call<'v> {
     pub(crate) version: u64,
@@ -18,22 +21,13 @@ pub(crate) struct Call<'v> {
     pub(crate) arguments: &'v [Value],
 }
 
-/// Says why the dims of these operands, or the arguments, fail an operation's checks. The operands
-/// themselves have no fault.
+/// Says why operands of these dims, or the arguments, fail an operation's checks.
 pub(crate) fn why_shapes(
     alloc: Global,
-    parsed: &Parsed,
     call: Call<'_>,
-    operands: &[Value],
+    dims: &[Dims],
 ) -> Result<String, AllocError> {
-    let mut dims = Vec::new(alloc);
-    for operand in operands {
-        match dims_of(alloc, parsed, operand)? {
-            Some(of_one) => dims.push(of_one)?,
-            None => return general(alloc, call),
-        }
-    }
-    let reason = match dims.as_slice() {
+    let reason = match dims {
         [first] => why_one(alloc, call, first.as_slice())?,
         [first, second] => why_two(alloc, call, first.as_slice(), second.as_slice())?,
         [first, second, third] => Some(format!(in alloc;
@@ -47,19 +41,47 @@ pub(crate) fn why_shapes(
     };
     match reason {
         Some(reason) => Ok(reason),
-        None => general(alloc, call),
+        None => why_unfit(alloc, call),
     }
 }
 
 /// Says only that the dims do not fit the operation, if no better reason is known.
-fn general(alloc: Global, call: Call<'_>) -> Result<String, AllocError> {
+pub(crate) fn why_unfit(alloc: Global, call: Call<'_>) -> Result<String, AllocError> {
     format!(in alloc; "the dims of the operands don't fit \"{}\"", call.name)
 }
 
-/// Returns the result dims of an operand.
-fn dims_of(alloc: Global, parsed: &Parsed, operand: &Value) -> Result<Option<Dims>, AllocError> {
-    match read_part(alloc, parsed, operand) {
-        Ok(request) => Ok(request.expr.dims(&request.inputs).ok()),
+/// Returns the result dims of the operands of the node at the end of a way, or `None` if one of them
+/// has a fault after all.
+pub(crate) fn dims_of_each(
+    alloc: Global,
+    source: Source<'_, '_>,
+    way: &[u8],
+    operands: &[Value],
+) -> Result<Option<Vec<Dims>>, AllocError> {
+    let mut dims = Vec::new(alloc);
+    for operand in operands {
+        match dims_of(alloc, source, way, operand)? {
+            Some(of_one) => dims.push(of_one)?,
+            None => return Ok(None),
+        }
+    }
+    Ok(Some(dims))
+}
+
+/// Returns the result dims of an operand of the node at the end of a way.
+fn dims_of(
+    alloc: Global,
+    source: Source<'_, '_>,
+    way: &[u8],
+    operand: &Value,
+) -> Result<Option<Dims>, AllocError> {
+    let inside = match source.root().get("expr") {
+        Some(expr) => inside_lets(alloc, expr, way, operand)?,
+        None => None,
+    };
+    let part = inside.as_ref().unwrap_or(operand);
+    match read_part(alloc, source.parsed, source.values, part) {
+        Ok(request) => Ok(Some(request.dims)),
         Err(Fault::NoMemory) => Err(AllocError),
         Err(_) => Ok(None),
     }
@@ -75,6 +97,7 @@ fn why_one(alloc: Global, call: Call<'_>, dims: &[u64]) -> Result<Option<String>
         "pad" => why_pad(alloc, call.version, argument, dims),
         "chip" => why_chip(alloc, call.arguments, dims),
         "slice" => why_slice(alloc, call.arguments, dims),
+        "cumsum" | "cumprod" | "argmax" | "argmin" => why_along(alloc, argument, dims),
         _ => match sizes_in(alloc, argument)? {
             Some(sizes) => why_sizes(alloc, call, sizes.as_slice(), dims),
             None => Ok(None),
@@ -115,6 +138,7 @@ fn why_two(
     match call.name {
         "concat" => why_concat(alloc, call.version, argument, first, second),
         "contract" => why_contract(alloc, call.version, argument, first, second),
+        "take" => why_take(alloc, call.version, argument, first, second),
         _ => why_convolve(alloc, argument, first, second),
     }
 }

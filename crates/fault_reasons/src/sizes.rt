@@ -3,11 +3,20 @@
 
 use serde_json::Value;
 use std::alloc::{AllocError, Global};
-use tensor_ops::TEXT_ELEMENTS;
+use tensor_ops::{MAX_ELEMENTS, TEXT_ELEMENTS};
 
 /// Returns the highest rank that a version allows.
 fn highest_rank(version: u64) -> usize {
     if version == 1 { 6 } else { 8 }
+}
+
+/// Returns the largest product of the dims of a tensor in a version.
+fn most_elements(version: u64) -> u64 {
+    if version == 3 {
+        MAX_ELEMENTS
+    } else {
+        TEXT_ELEMENTS
+    }
 }
 
 /// Returns the product of sizes, with a 0 counted as 1, or `u64::MAX` if it is larger.
@@ -42,8 +51,8 @@ pub(crate) fn why_illegal(
         )?;
         return Ok(Some(reason));
     }
-    let product = product(sizes);
-    if product > TEXT_ELEMENTS {
+    let (product, elements) = (product(sizes), most_elements(version));
+    if product > elements {
         let zero = if sizes.contains(&0) {
             " (a 0 counts as 1)"
         } else {
@@ -51,7 +60,7 @@ pub(crate) fn why_illegal(
         };
         let most = if product == u64::MAX { "at least " } else { "" };
         let reason = format!(in alloc;
-            "the product of the dims {sizes:?}{zero} is {most}{product}; it may be at most {TEXT_ELEMENTS}"
+            "the product of the dims {sizes:?}{zero} is {most}{product}; it may be at most {elements}"
         )?;
         return Ok(Some(reason));
     }
@@ -74,8 +83,13 @@ pub(crate) fn sizes_in(alloc: Global, value: &Value) -> Result<Option<Vec<u64>>,
 }
 
 /// Says that a result has more places along an axis than fit in 64 bits.
-pub(crate) fn past_words(alloc: Global, axis: usize) -> Result<Option<String>, AllocError> {
-    let rule = format!(in alloc; "the product of its dims may be at most {TEXT_ELEMENTS}")?;
+pub(crate) fn past_words(
+    alloc: Global,
+    version: u64,
+    axis: usize,
+) -> Result<Option<String>, AllocError> {
+    let elements = most_elements(version);
+    let rule = format!(in alloc; "the product of its dims may be at most {elements}")?;
     let reason = format!(in alloc;
         "along axis {axis} the result has more than {} places; {rule}",
         u64::MAX

@@ -1,18 +1,87 @@
 //! Reasons for the fault BadTensor. The checks are made in the order of `expr_reader`
-//! (`specs/Tensors` there).
+//! (`specs/Tensors` and `specs/Frame` there).
 
 use crate::found::found;
-use crate::sizes::why_illegal;
+use crate::sizes::{places, sizes_in, why_illegal};
+use crate::source::Source;
 use serde_json::Value;
 use std::alloc::{AllocError, Global};
 
-/// Says why the value of the field `inputs` is not an object.
-pub(crate) fn why_inputs(alloc: Global, value: &Value) -> Result<String, AllocError> {
-    let what = found(alloc, value)?;
-    format!(in alloc; "inputs must be an object of tensors; this is {what}")
+/// Says why the value of the field `inputs` is not an object, or that more values follow the header
+/// than its tensors have places.
+pub(crate) fn why_inputs(
+    alloc: Global,
+    source: Source<'_, '_>,
+    value: &Value,
+) -> Result<String, AllocError> {
+    let Some(members) = value.as_object() else {
+        let what = found(alloc, value)?;
+        return format!(in alloc; "inputs must be an object of tensors; this is {what}");
+    };
+    let mut places = 0u64;
+    for (_, tensor) in members {
+        places = places.saturating_add(places_in(alloc, tensor)?);
+    }
+    let count = source.count();
+    format!(in alloc;
+        "the number of places of all tensors is {places}; the number of values is {count}"
+    )
 }
 
-/// Says why a value is not a tensor in this version.
+/// Says why a member of `inputs` is not a tensor of a header, or that too few values follow it.
+pub(crate) fn why_header_tensor(
+    alloc: Global,
+    source: Source<'_, '_>,
+    name: &str,
+    value: &Value,
+) -> Result<String, AllocError> {
+    let Some(members) = value.as_object() else {
+        let what = found(alloc, value)?;
+        return format!(in alloc; "a tensor of a header is an object of dims alone; this is {what}");
+    };
+    let Some(dims) = value.get("dims") else {
+        return format!(in alloc; "the tensor has no dims");
+    };
+    if members.len() != 1 {
+        return format!(in alloc;
+            "a tensor of a header has the member dims only; this one has {} members",
+            members.len()
+        );
+    }
+    match why_dims(alloc, source.version(), dims)? {
+        Some(reason) => Ok(reason),
+        None => why_few(alloc, source, name),
+    }
+}
+
+/// Says that fewer values follow a header than the tensors up to this one have places.
+fn why_few(alloc: Global, source: Source<'_, '_>, name: &str) -> Result<String, AllocError> {
+    let mut places = 0u64;
+    if let Some(members) = source.root().get("inputs").and_then(Value::as_object) {
+        for (other, tensor) in members {
+            if other.as_bytes() <= name.as_bytes() {
+                places = places.saturating_add(places_in(alloc, tensor)?);
+            }
+        }
+    }
+    let count = source.count();
+    format!(in alloc;
+        "the number of places up to this tensor is {places}; the number of values is {count}"
+    )
+}
+
+/// Returns how many places a tensor has, if it is one.
+fn places_in(alloc: Global, tensor: &Value) -> Result<u64, AllocError> {
+    let Some(dims) = tensor.get("dims") else {
+        return Ok(0);
+    };
+    match sizes_in(alloc, dims)? {
+        Some(sizes) => Ok(places(sizes.as_slice())),
+        None => Ok(0),
+    }
+}
+
+/// Says why a value is not a tensor of a text in this version.
 pub(crate) fn why_tensor(alloc: Global, version: u64, value: &Value) -> Result<String, AllocError> {
     let Some(members) = value.as_object() else {
         let what = found(alloc, value)?;

@@ -1,7 +1,7 @@
-//! Reasons for the faults TooLong and NotJson. The JSON parser gives the line, the column and the
-//! byte of an error.
+//! Reasons for the faults TooLong and NotJson, which the whole text or header has. The JSON parser
+//! gives the line, the column and the byte of an error.
 
-use expr_reader::Fault;
+use expr_reader::{Fault, values_limit};
 use serde_json::Value;
 use std::alloc::{AllocError, Global};
 
@@ -15,6 +15,31 @@ pub(crate) fn why_text(alloc: Global, fault: Fault, text: &[u8]) -> Result<Strin
         Fault::NotJson => why_json(alloc, text),
         _ => format!(in alloc; "{fault}"),
     }
+}
+
+/// Says why a header is too long, has too many values after it, or is not JSON.
+pub(crate) fn why_header(
+    alloc: Global,
+    fault: Fault,
+    header: &[u8],
+    count: u64,
+) -> Result<String, AllocError> {
+    if fault != Fault::TooLong {
+        return why_text(alloc, fault, header);
+    }
+    if header.len() > expr_reader::MAX_TEXT {
+        return format!(in alloc;
+            "a header may have at most {} bytes; this one has more",
+            expr_reader::MAX_TEXT
+        );
+    }
+    let most = match values_limit(alloc, header) {
+        Ok(most) => most,
+        Err(_) => return Err(AllocError),
+    };
+    format!(in alloc;
+        "at most {most} values may follow this header; the number of values is {count}"
+    )
 }
 
 /// Says why a text is not JSON, and at which byte.

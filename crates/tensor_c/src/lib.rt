@@ -6,6 +6,7 @@
 mod arrays;
 mod asked;
 mod evaluation;
+mod explaining;
 mod faults;
 mod laws;
 mod part;
@@ -13,9 +14,10 @@ mod plan;
 mod room;
 mod shared;
 
-ghost use Rattle.std.specs.Prelude.{◌≡◌, ◌≢◌, ◌≤ℤ◌, ℤ, pos, List, length, Ok, Err};
+ghost use Rattle.std.specs.Prelude.{◌≡◌, ◌≢◌, ◌≤ℤ◌, ℤ, pos, List, length, replicate, Ok, Err};
 ghost use Rattle.expr_reader.specs.Arrays.{arrays_under, joined};
 ghost use Rattle.expr_reader.specs.Faults.{fault_number, fault_name};
+ghost use Rattle.expr_reader.specs.Frame.{frame_at};
 ghost use Rattle.expr_reader.specs.Request.{Asked};
 ghost use Rattle.expr_reader.specs.declared.fault.Fault.{Fault};
 ghost use Rattle.prepared_expressions.specs.Prepared.{Prepared, record_of};
@@ -23,6 +25,7 @@ ghost use Rattle.tensor_c.specs.Answer.{answer_of_arrays, answer_of_frame};
 ghost use Rattle.tensor_c.specs.Answer.{answer_dims, dims_of_arrays};
 ghost use Rattle.tensor_c.specs.Call.{IsCall, IsDimsCall, IsTooLong};
 ghost use Rattle.tensor_c.specs.Call.{called, called_for_dims, called_for_name};
+ghost use Rattle.tensor_c.specs.Explaining.{IsExplainCall};
 ghost use Rattle.tensor_c.specs.Part.{IsPartCall, called_for_part};
 ghost use Rattle.tensor_c.specs.Plan.{asked_over, plan_over, prepared_of, called_for_plan};
 ghost use Rattle.tensor_c.specs.Plan.{IsPlan, IsPlanCall, answer_of_plan, IsRefused};
@@ -31,6 +34,7 @@ ghost use Rattle.tensor_c.specs.Version.{version};
 
 use crate::arrays::{dims_over, put_part_over};
 use crate::evaluation::{dims_of, put_answer};
+use crate::explaining::put_explanation;
 use crate::faults::fault_of;
 use crate::part::put_part;
 use crate::plan::{put_plan, put_planned};
@@ -192,6 +196,19 @@ pub extern "C" fn tensor_shared(alloc: Global, header: &[u8], arrays: &[Array<'_
         → result ≡ called_for_count (Err Fault.TooLong) }
 {
     shared_by_parts(alloc, header, arrays)
+}
+
+/// Writes the explanation of a frame with `count` values, and a 0 byte after it: the first fault,
+/// its place and a reason, or that there is none. Returns how many bytes it has, without the 0. No
+/// value is read.
+///
+/// If `text` is too short, -100 is returned; if an allocation fails, -15. Nothing is written then.
+#[unsafe(no_mangle)]
+pub extern "C" fn tensor_explain(alloc: Global, header: &[u8], count: u64, text: &mut [u8]) -> i64
+    ensures { IsExplainCall (frame_at header.now (replicate count (pos 0))) text.old
+        (record { result = result; name = text.new }) }
+{
+    put_explanation(alloc, header, count, text)
 }
 
 /// Writes the name of the fault with this number, and a 0 byte after it. Returns how many bytes the

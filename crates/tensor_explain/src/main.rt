@@ -1,33 +1,63 @@
-//! The program that explains the request on standard input: its fault, the place and the reason,
-//! with status 1, or its plan, with status 0. What it prints is defined in `fault_reasons`; the
-//! statuses and the lines on standard error are as in `tensor_run`. It ignores arguments.
+//! The program that explains the request or the frame on standard input: its fault, the place and
+//! the reason, with status 1, or its plan, with status 0. `fault_reasons` defines what it prints,
+//! except the steps of the plan. The statuses and the lines on standard error are as in
+//! `tensor_run`. It ignores arguments.
 #![tactic(auto)]
 
-use fault_reasons::{Explanation, explain, no_memory};
-use std::io;
-use std::io::{ErrorKind, Read, Write};
-use std::process::ExitCode;
-use tensor_runner::{MOST_READ, StreamFault, ending_of};
+mod input;
+mod steps;
 
-/// Reads the text on standard input and explains it. It reads at most one byte more than a text may
-/// have.
-fn explained(rt: &HostRuntime) -> Result<Explanation, StreamFault> {
+use crate::input::{Input, Unread, read_input};
+use crate::steps::steps_of;
+use fault_reasons::{Explanation, explain, explain_frame, no_memory};
+use std::io;
+use std::io::Write;
+use std::process::ExitCode;
+use tensor_runner::{StreamFault, ending_of};
+
+/// What is printed: an explanation, and a line for each step.
+#[derive(Drop)]
+struct Told {
+    explanation: Explanation,
+    steps: String,
+}
+
+/// Explains a request. If an allocation fails, only that is told.
+fn explained(rt: &HostRuntime, input: &Input) -> Told {
     let alloc = rt.alloc();
-    let mut text = Vec::new(alloc);
-    match rt.stdin().take(MOST_READ as u64).read_to_end(&mut text) {
-        Ok(_) => Ok(explain(alloc, text.as_slice())),
-        Err(error) if error.kind() == ErrorKind::OutOfMemory => Ok(no_memory()),
-        Err(_) => Err(StreamFault::ReadFault),
+    let explanation = match input {
+        Input::Text(text) => explain(alloc, text.as_slice()),
+        Input::Frame { header, count } => explain_frame(alloc, header.as_slice(), *count),
+    };
+    let steps = match explanation.fault {
+        Some(_) => Ok(String::new(alloc)),
+        None => steps_of(alloc, input),
+    };
+    match steps {
+        Ok(steps) => Told { explanation, steps },
+        Err(_) => only(rt, no_memory()),
     }
 }
 
-/// Writes the explanation to standard output, and returns the exit status.
+/// Returns an explanation without steps.
+fn only(rt: &HostRuntime, explanation: Explanation) -> Told {
+    let steps = String::new(rt.alloc());
+    Told { explanation, steps }
+}
+
+/// Writes what is told to standard output, and returns the exit status.
 fn told(rt: &HostRuntime) -> Result<u8, StreamFault> {
-    let told = explained(rt)?;
-    match rt.stdout().write_all(told.lines.as_slice()) {
-        Ok(()) => Ok(u8::from(told.fault.is_some())),
-        Err(_) => Err(StreamFault::WriteFault),
+    let told = match read_input(rt) {
+        Ok(input) => explained(rt, &input),
+        Err(Unread::NoMemory) => only(rt, no_memory()),
+        Err(Unread::Stream(fault)) => return Err(fault),
+    };
+    for lines in [told.explanation.lines.as_slice(), told.steps.as_bytes()] {
+        if rt.stdout().write_all(lines).is_err() {
+            return Err(StreamFault::WriteFault);
+        }
     }
+    Ok(u8::from(told.explanation.fault.is_some()))
 }
 
 fn main(rt: HostRuntime) -> io::Result<ExitCode> {

@@ -1,9 +1,9 @@
 -- What the code returns for a part of a text, beside what the definitions say.
-use Rattle.std.specs.Prelude.{◌≡◌, ◌⊎◌, ◌<◌, ◌≤◌, ℕ, List, Option, Some, None}
+use Rattle.std.specs.Prelude.{◌≡◌, ◌⊎◌, ℕ, List, Option, Some, None}
 use Rattle.std.specs.Prelude.{Result, Ok, Err, MatchResult}
-use Rattle.expr_reader.specs.Place.{Step, Located, here, way_of}
+use Rattle.expr_reader.specs.Place.{Step, Located, way_of}
 use Rattle.expr_reader.specs.declared.fault.Fault.{Fault}
-use Rattle.expr_reader.specs.declared.fault.Fault.TheVariants.{NoMemory, TooLong}
+use Rattle.expr_reader.specs.declared.fault.Fault.TheVariants.{NoMemory}
 
 -- the code returns what is there, as `shows` sees it, or `fault` if nothing is there, or `NoMemory`
 abbrev pub IsReadOr : {A B : Type 0} → Fault → (A → B) → Option B → Result A Fault → Type 0
@@ -24,10 +24,3 @@ IsToldAt shows says place r =
 abbrev pub IsReadAt : {A B : Type 0} → (A → B) → Result B Located → List ℕ → Result A Fault
     → Type 0
 IsReadAt shows says indices r = IsToldAt shows says (way_of indices) r
-
--- why a header with `count` values after it is refused: an allocation failed, there are more than
--- `most` values, or it is not the data of a text
-abbrev pub IsRefused : {A : Type 0} → Fault → ℕ → ℕ → Result A Located → Type 0
-IsRefused fault most count says =
-    (fault ≡ NoMemory) ⊎ (((fault ≡ TooLong) × (most < count))
-    ⊎ ((count ≤ most) × (says ≡ Err (here fault))))
