@@ -203,6 +203,16 @@ class Functions:
         ranked = struct.pack(f"<{len(sizes) + 1}Q", len(sizes), *sizes)
         ctypes.memmove(dims, ranked, len(ranked))
 
+    def explain(self, header, length, count, text, room):
+        """Writes the line of a fault, without a place and a reason."""
+        self.owe([(header, length, 1)], [(text, room, 1)])
+        found, _ = answered(ctypes.string_at(header, length), [0] * count)
+        said = (found if fault_number(found) else b"no fault") + b"\n\0"
+        if len(said) > room:
+            return NO_ROOM
+        ctypes.memmove(text, said, len(said))
+        return len(said) - 1
+
     def fault_name(self, number, name, room):
         self.owe([], [(name, room, 1)])
         text = FAULTS.get(number, "").encode()

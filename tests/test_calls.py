@@ -2,7 +2,7 @@
 
 The calls ask for parts of an answer, hand over arrays joined and apart, prepare and run plans, have
 more values than a text may have, count the values that parts share, have lists that are too short,
-and return the version. A call that fails writes nothing. In a table a number in place of a text or of a list of
+explain frames, and return the version. A call that fails writes nothing. In a table a number in place of a text or of a list of
 values stands for that many zeros. A new case is a row of its table.
 """
 
@@ -17,6 +17,7 @@ from calling import MOST, SENTINEL, WIDEST, Array, Library, arrays_of, blank, by
 from calling import values_of, written
 from framing import GREATEST, LEAST
 from hostile import TOP
+from request_cases import explanations
 
 NO_ROOM, NO_PLAN, TOO_LONG, BAD_TENSOR, BAD_ARITY = -100, -101, -1, -7, -9
 # How many numbers the plan of an operation on two tensors has, as include/tensor.h says.
@@ -306,6 +307,21 @@ def test_version(library):
     with open(os.path.join(TOP, "VERSION"), encoding="ascii") as file:
         numbers = file.read().strip().split(".")
     assert library.call("version") == int("".join(it.zfill(3) for it in numbers))
+
+
+FRAMES = explanations("frame_explanations")
+
+
+@pytest.mark.parametrize("asked, lines", FRAMES, ids=[lines.split(b"\n")[-1].decode() for _, lines in FRAMES])
+def test_explanations(library, asked, lines):
+    """The library says what ./explain says, except the steps."""
+    count, text = asked.decode().split(" ", 1)
+    said = b"".join(it + b"\n" for it in lines.split(b"\n") if not it.startswith(b"step "))
+    room, short = blank(len(said) + 2, ctypes.c_uint8), blank(len(said), ctypes.c_uint8)
+    assert library.call("explain", bytes_of(text), int(count), room) == len(said)
+    assert list(room) == written([*said, 0], len(said) + 2)
+    assert library.call("explain", bytes_of(text), int(count), short) == NO_ROOM
+    assert list(short) == written([], len(said))
 
 
 @pytest.mark.parametrize("number", [0, 16, 2**32 - 1])

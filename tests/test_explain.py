@@ -25,7 +25,7 @@ import request_cases
 from framing import SIZES, NoFrame, framed
 from fuzzing import grammar, places, reasons, spoiling
 from fuzzing.rules import FAULTS, MOST_BYTES
-from hostile import EXPLAIN_PROGRAM, NO_MEMORY, READ_FAULT, SECONDS, TOP, WRITE_FAULT
+from hostile import EXPLAIN_PROGRAM, NO_MEMORY, READ_FAULT, SECONDS, WRITE_FAULT
 from hostile import by_shell, request, run
 
 pytestmark = pytest.mark.usefixtures("programs")
@@ -75,14 +75,14 @@ def see(text):
     assert reasons.is_true(text, value, fault, reason), shown
 
 
-def table(name="explanations"):
-    """The texts of a table, each with what is printed of it: a blank line stands before each."""
-    with open(os.path.join(TOP, "tests", "cases", f"{name}.cases"), "rb") as file:
-        cases = file.read().rstrip(b"\n").split(b"\n\n")[1:]
-    return [it.split(b"\n", 1) for it in cases]
+def ids_of(table):
+    return [lines.split(b"\n")[-1].decode() for _, lines in table]
 
 
-@pytest.mark.parametrize("text, lines", table(), ids=[lines.split(b"\n")[-1].decode() for _, lines in table()])
+TABLE, FRAMES = request_cases.explanations("explanations"), request_cases.explanations("frame_explanations")
+
+
+@pytest.mark.parametrize("text, lines", TABLE, ids=ids_of(TABLE))
 def test_table(text, lines):
     assert explained(text) == (lines.decode() + "\n", "", int(not lines.startswith(b"no fault")))
     see(text)
@@ -93,10 +93,7 @@ def head(header, count):
     return SIZES.pack(len(header), count) + header
 
 
-FRAMES = table("frame_explanations")
-
-
-@pytest.mark.parametrize("asked, lines", FRAMES, ids=[lines.split(b"\n")[-1].decode() for _, lines in FRAMES])
+@pytest.mark.parametrize("asked, lines", FRAMES, ids=ids_of(FRAMES))
 def test_table_of_frames(asked, lines):
     count, header = asked.split(b" ", 1)
     fault = int(not lines.startswith(b"no fault"))
@@ -104,7 +101,7 @@ def test_table_of_frames(asked, lines):
 
 
 def test_faults_of_table():
-    found = {places.find(text)[1][0] for text, _ in table() if places.find(text)[1]}
+    found = {places.find(text)[1][0] for text, _ in TABLE if places.find(text)[1]}
     assert found >= FAULTS.keys() - {1}
 
 

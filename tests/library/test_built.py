@@ -47,12 +47,14 @@ def test_cpp_example(compiled_cpp):
     if not os.path.isdir(EIGEN):
         pytest.skip("no Eigen (Debian's libeigen3-dev)")
     example = compiled_cpp(f"{TOP}/examples/cpp/arrays.cpp", "-isystem", EIGEN)
-    assert output(example) == "5000000\n5000000\nfault 8 UnknownInput\n"
+    why = 'UnknownInput at /expr/2: no input is named "c": the inputs are "a", "b"'
+    assert output(example) == f"5000000\n5000000\nfault 8 {why}\n"
 
 
 def test_cpp_example_of_expressions(compiled_cpp):
     example = compiled_cpp(f"{TOP}/examples/cpp/expressions.cpp")
-    assert output(example) == "2 13 18 1 100 25 \n0 1 \nfault 12 ShapeMismatch\n"
+    why = 'at /expr: the operands of "add" must have the same dims; they have [2, 2] and [2, 3]'
+    assert output(example) == f"2 13 18 1 100 25 \n0 1 \nfault 12 ShapeMismatch {why}\n"
 
 
 def assert_built(got):

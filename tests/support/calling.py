@@ -18,7 +18,7 @@ if not os.path.exists(ARCHIVE) or not os.path.exists(LIBRARY):
 MOST, WIDEST = 16_777_216, 4_294_967_296
 DIMS_ROOM, SPARE, SENTINEL = 9, 3, 77
 CALLS = ("evaluate", "evaluate_part", "evaluate_arrays", "shared", "prepare", "run", "dims")
-CALLS += ("dims_of_arrays", "fault_name", "version", "pool_run", "pool_evaluate_arrays")
+CALLS += ("dims_of_arrays", "explain", "fault_name", "version", "pool_run", "pool_evaluate_arrays")
 
 
 def header(inputs, expr, version=1):

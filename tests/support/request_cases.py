@@ -42,3 +42,11 @@ def cases_of(path):
 def texts():
     """The texts of crates/request_cases."""
     return [text.encode() for path in PATHS for text, _ in cases_of(path)]
+
+
+def explanations(name):
+    """What stands in a file of tests/cases behind each blank line: a text or a frame in one line, and the lines
+    that ./explain prints of it."""
+    with open(os.path.join(TOP, "tests", "cases", f"{name}.cases"), "rb") as file:
+        cases = file.read().rstrip(b"\n").split(b"\n\n")[1:]
+    return [it.split(b"\n", 1) for it in cases]
