@@ -244,34 +244,34 @@ pub fn locate<'v>(alloc: Global, parsed: &'v Parsed, values: Values<'_>) -> Opti
     }
 }
 
-/// Reads the request of a parsed text or header with these values, with `expr` in place of its own
+/// Reads the outline of a parsed text or header with these values, with `expr` in place of its own
 /// expression. `fault_reasons` uses it to find the dims of an operand.
 ///
 /// # Errors
 ///
-/// The first fault of that request, or [`Fault::NoMemory`].
+/// The first fault of that outline, or [`Fault::NoMemory`].
 #[tactic(auto, using(crate::proofs::Valued::fields_as_by))]
 pub fn read_part<'a>(
     alloc: Global,
     parsed: &Parsed,
     values: Values<'a>,
     expr: &Value,
-) -> Result<Request<'a>, Fault>
-    ensures request { MatchResult result
-        (λ request. part_from values.entry (view parsed.now.value) (view expr.now)
-        ≡ Ok (asked_under request))
+) -> Result<Outline<'a>, Fault>
+    ensures outline { MatchResult result
+        (λ outline. part_from values.entry (view parsed.now.value) (view expr.now)
+        ≡ Ok (outlined outline))
         (λ fault. (fault ≡ Fault.NoMemory)
         ⊎ (unlocated (part_from values.entry (view parsed.now.value) (view expr.now))
         ≡ Err fault)) }
-    ensures unbound { values.entry ≡ Values.InText → IfOk result IsUnbound }
+    ensures unbound { values.entry ≡ Values.InText
+        → IfOk result (λ outline. outline.bindings.items ≡ []) }
 {
     let Some(fields) = Fields::of(&parsed.value) else {
         return Err(Fault::BadField);
     };
     let fields = Fields { expr, ..fields };
     let mut place = Place::Whole;
-    let outline = read_fields(alloc, &fields, values, &mut place)?;
-    outline.into_request(alloc)
+    read_fields(alloc, &fields, values, &mut place)
 }
 
 /// Reads the outline of a JSON value. `place` is the whole value before the call; on a fault, it is
