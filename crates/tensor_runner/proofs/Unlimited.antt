@@ -1,6 +1,6 @@
 -- Without limits a line is that of an answer.
 use Rattle.std.specs.Prelude.{IsSome, is_some}
-use Rattle.std.proofs.Common.{◌≡◌, ℕ, true, false, List, None, Option, Result, Ok, Err, refl, ap, sym, ◌∙◌, inl, inr}
+use Rattle.std.proofs.Common.{◌≡◌, ℕ, true, false, None, Option, Result, Ok, Err, refl, ap, sym, ◌∙◌, inl, inr}
 use Rattle.expr_reader.specs.Request.{Asked, request_of}
 use Rattle.expr_reader.specs.declared.fault.Fault.{Fault}
 use Rattle.expr_reader.specs.declared.fault.Fault.TheVariants.{NoMemory}

@@ -1,8 +1,6 @@
 use Rattle.std.proofs.Common.{◌∙◌, ap, List, ℕ, ◌++◌, inl, inr}
 use Rattle.std.specs.List.{flat_map}
-use Rattle.expr_reader.specs.Contents.{Contents}
-use Rattle.tensor_runner.specs.Answer.{tensor}
-use Rattle.frame_server.specs.Answer.{answer_bytes, dims_text}
+use Rattle.frame_server.specs.Answer.{dims_text}
 use Rattle.frame_server.specs.Frame.{value_bytes}
 use Rattle.frame_server.proofs.Answering.{front-behind}
 use Rattle.frame_server.proofs.answer.tensor_frame.Goals as goal
