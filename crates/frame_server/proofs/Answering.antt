@@ -24,8 +24,7 @@ use Rattle.expr_reader.specs.declared.fault.Fault.{Fault}
 use Rattle.expr_reader.specs.declared.fault.Fault.TheVariants.{TooLong, NoMemory}
 use Rattle.tensor_runner.specs.Answer.{tensor, fault, answer_from}
 use Rattle.tensor_runner.specs.Journal.{steps_in, HasSteps}
-use Rattle.tensor_runner.specs.Limited.{over_limits, refusal}
-use Rattle.tensor_runner.specs.Work.{steps_of}
+use Rattle.tensor_runner.specs.Limited.{over_limits, steps_if, refusal}
 use Rattle.tensor_runner.specs.declared.journal.AnyFault.{AnyFault}
 use Rattle.tensor_runner.specs.declared.journal.AnyFault.TheVariants as any
 use Rattle.tensor_runner.specs.declared.limits.LimitFault.{LimitFault}
@@ -35,9 +34,10 @@ use Rattle.message_server.specs.History.{History, writing, AddsAtMost}
 use Rattle.message_server.specs.Pieces.{AppendsFront}
 use Rattle.message_server.proofs.Streams.{Appends-trans}
 use Rattle.frame_server.specs.Answer.{answer_of, answer_bytes, IsAnswerTo, IsShort}
-use Rattle.frame_server.specs.private.Answering.{front_bytes, bytes_in, values_in, Says, IsFrameRead, IsFrameUnder, IsFrameFrom, SaysTooLong, IsFaultOf, IsFaultFrame, IsTensorFrame, IsLimitFrame, IsOwnFrame}
+use Rattle.frame_server.specs.private.Answering.{front_bytes, bytes_in, values_in, IsFrameRead, IsFrameUnder, IsFrameFrom, SaysTooLong, IsFaultOf, IsFaultFrame, IsTensorFrame, IsLimitFrame, IsOwnFrame}
 use Rattle.frame_server.specs.Frame.{Frame, frame_bytes, frame_in, header_len, value_count, number_bytes, value_bytes, IsWhole}
 use Rattle.frame_server.specs.Limited.{frame_unless, frame_read, limit_frame, request_in, is_longer, IsFrameWithin}
+use Rattle.frame_server.specs.NotedFrames.{Says}
 use Rattle.frame_server.specs.private.Taking.{IsTooLong, IsPassed, frame_under}
 use Rattle.frame_server.specs.declared.frame.AnswerFrame.{AnswerFrame}
 use Rattle.frame_server.specs.declared.frame.WholeFrame.{WholeFrame}
@@ -181,57 +181,55 @@ length-kept bytes frame whole same =
     omega (arith, header, values, whole)
 
 -- what an answer's frame says
-Says-of : (o p : Option AnyFault) (bytes : List ℕ) → o ≡ p → Says bytes p → Says bytes o
+pub Says-of : (o p : Option AnyFault) (bytes : List ℕ) → o ≡ p → Says bytes p → Says bytes o
 Says-of o p bytes is says = subst (λ (q : Option AnyFault). Says bytes q) (sym is) says
 
 -- the frame that answers a request, given the limit that it is over
-IsFrameUnder-asked : (limits : Limits) (bytes : List ℕ) (a : Asked) (over : Option LimitFault) (frame : AnswerFrame)
-    → request_in (frame_in bytes) ≡ Ok a → over ≡ over_limits limits a → IsOwnFrame over limits.seconds a frame → frame.steps ≡ Some (steps_of a)
-    → IsShort (header_len bytes) (value_count bytes) → IsFrameUnder limits bytes frame
-IsFrameUnder-asked limits bytes a (Some f) frame asks found own steps short =
+IsFrameUnder-asked : (limits : Limits) (logs : Bool) (bytes : List ℕ) (a : Asked) (over : Option LimitFault) (frame : AnswerFrame)
+    → request_in (frame_in bytes) ≡ Ok a → over ≡ over_limits limits a → IsOwnFrame over limits.seconds a frame → frame.steps ≡ steps_if limits logs a
+    → IsShort (header_len bytes) (value_count bytes) → IsFrameUnder limits logs bytes frame
+IsFrameUnder-asked limits logs bytes a (Some f) frame asks found own steps short =
     let refused : refusal limits (request_in (frame_in bytes)) ≡ Some f = ap (refusal limits) asks ∙ sym found in
     record {
       within = inl (own.0 ∙ sym (ap (λ (o : Option LimitFault). frame_unless o (answer_bytes (answer_of (frame_in bytes)))) refused));
       says = Says-of frame.fault (Some (any.Limit f)) (bytes_in frame) own.1 own.0;
-      has = inl (steps ∙ sym (ap steps_in asks));
+      has = inl (steps ∙ sym (ap (steps_in limits logs) asks));
     }
-IsFrameUnder-asked limits bytes a None frame asks found (inl (inl own)) steps short =
+IsFrameUnder-asked limits logs bytes a None frame asks found (inl (inl own)) steps short =
     let refused : refusal limits (request_in (frame_in bytes)) ≡ None = ap (refusal limits) asks ∙ sym found in
     record {
       within = inl (own.0 ∙ sym (ap (λ (o : Result Asked Fault). answer_bytes (answer_from o)) asks)
           ∙ sym (ap (λ (o : Option LimitFault). frame_unless o (answer_bytes (answer_of (frame_in bytes)))) refused));
       says = Says-of frame.fault None (bytes_in frame) own.1 (asked_tensor a, own.0);
-      has = inl (steps ∙ sym (ap steps_in asks));
+      has = inl (steps ∙ sym (ap (steps_in limits logs) asks));
     }
-IsFrameUnder-asked limits bytes a None frame asks found (inl (inr memory)) steps short = record {
+IsFrameUnder-asked limits logs bytes a None frame asks found (inl (inr memory)) steps short = record {
   within = inr (inl (memory.bytes, short));
   says = Says-of frame.fault (Some (any.Request NoMemory)) (bytes_in frame) memory.fault memory.bytes;
-  has = inl (steps ∙ sym (ap steps_in asks));
+  has = inl (steps ∙ sym (ap (steps_in limits logs) asks));
 }
-IsFrameUnder-asked limits bytes a None frame asks found (inr stopped) steps short = record {
+IsFrameUnder-asked limits logs bytes a None frame asks found (inr stopped) steps short = record {
   within = inr (inr (stopped.0.0, record { limited = stopped.1; asks = ap is_ok asks; allowed = ap (refusal limits) asks ∙ sym found }));
   says = Says-of frame.fault (Some (any.Limit TooManySeconds)) (bytes_in frame) stopped.0.1 stopped.0.0;
-  has = inl (steps ∙ sym (ap steps_in asks));
+  has = inl (steps ∙ sym (ap (steps_in limits logs) asks));
 }
 
-pub IsFrameUnder-own : (limits : Limits) (bytes : List ℕ) (kept : WholeFrame) (request : Request) (frame : AnswerFrame)
+pub IsFrameUnder-own : (limits : Limits) (logs : Bool) (bytes : List ℕ) (kept : WholeFrame) (request : Request) (frame : AnswerFrame)
     → frame_under kept ≡ frame_in bytes
     → request_of_frame kept.header.items kept.values.items ≡ Ok (asked_under request)
-    → IsOwnFrame (over_limits limits (asked_under request)) limits.seconds (asked_under request) frame → frame.steps ≡ Some (steps_of (asked_under request))
-    → IsShort (header_len bytes) (value_count bytes) → IsFrameUnder limits bytes frame
-IsFrameUnder-own limits bytes kept request frame same asks own steps short =
-    IsFrameUnder-asked limits bytes (asked_under request) (over_limits limits (asked_under request)) frame (ap request_in (sym same) ∙ asks) refl own steps short
+    → IsOwnFrame (over_limits limits (asked_under request)) limits.seconds (asked_under request) frame → frame.steps ≡ steps_if limits logs (asked_under request)
+    → IsShort (header_len bytes) (value_count bytes) → IsFrameUnder limits logs bytes frame
+IsFrameUnder-own limits logs bytes kept request frame same asks own steps short =
+    IsFrameUnder-asked limits logs bytes (asked_under request) (over_limits limits (asked_under request)) frame (ap request_in (sym same) ∙ asks) refl own steps short
 
 -- the frame of a limit, or of what is asked for where there is none
 pub IsOwnFrame-limit : (over : Option LimitFault) (seconds : Option ℕ) (f : LimitFault) (a : Asked) (frame : AnswerFrame) → over ≡ Some f
     → bytes_in frame ≡ limit_frame f → frame.fault ≡ Some (any.Limit f) → IsOwnFrame over seconds a frame
 IsOwnFrame-limit over seconds f a frame is bytes says = subst (λ (o : Option LimitFault). IsOwnFrame o seconds a frame) (sym is) (bytes, says)
 
-pub IsOwnFrame-tensor : (over : Option LimitFault) (own_seconds seconds : Option ℕ) (a : Asked) (frame : AnswerFrame) → over ≡ None → seconds ≡ own_seconds
-    → IsTensorFrame (asked_tensor a) frame ⊎ (IsLimitFrame TooManySeconds frame × IsSome seconds) → IsOwnFrame over own_seconds a frame
-IsOwnFrame-tensor over own_seconds seconds a frame is same own =
-    subst (λ (o : Option LimitFault). IsOwnFrame o own_seconds a frame) (sym is)
-    (subst (λ (s : Option ℕ). IsTensorFrame (asked_tensor a) frame ⊎ (IsLimitFrame TooManySeconds frame × IsSome s)) same own)
+pub IsOwnFrame-tensor : (over : Option LimitFault) (seconds : Option ℕ) (a : Asked) (frame : AnswerFrame) → over ≡ None
+    → IsTensorFrame (asked_tensor a) frame ⊎ (IsLimitFrame TooManySeconds frame × IsSome seconds) → IsOwnFrame over seconds a frame
+IsOwnFrame-tensor over seconds a frame is own = subst (λ (o : Option LimitFault). IsOwnFrame o seconds a frame) (sym is) own
 
 -- the frame of a fault
 fault_is_no_tensor : (f : Fault) (t : Contents) → fault f ≡ tensor t → ⊥
@@ -248,24 +246,24 @@ IsFrameRead-fault limits bytes f answer (inl own) is = inl (is ∙ fault-frame l
 IsFrameRead-fault limits bytes f answer (inr memory) is = inr (inl (is ∙ ap answer_bytes memory.0, memory.1))
 
 -- what is no request has no steps
-steps-fault : (r : Result Asked Fault) (f : Fault) → fault f ≡ answer_from r → steps_in r ≡ None
-steps-fault (Ok a) f is = absurd (fault_is_no_tensor f (asked_tensor a) is)
-steps-fault (Err g) f is = refl
+steps-fault : (limits : Limits) (logs : Bool) (r : Result Asked Fault) (f : Fault) → fault f ≡ answer_from r → steps_in limits logs r ≡ None
+steps-fault limits logs (Ok a) f is = absurd (fault_is_no_tensor f (asked_tensor a) is)
+steps-fault limits logs (Err g) f is = refl
 
 memory_of : (f : Fault) → fault f ≡ fault NoMemory → f ≡ NoMemory
 memory_of f is = cc
 
-HasSteps-none : (bytes : List ℕ) (f : Fault) (o : Option AnyFault) (steps : Option ℕ) → IsFaultOf bytes f → o ≡ Some (any.Request f) → steps ≡ None
-    → HasSteps (request_in (frame_in bytes)) o steps
-HasSteps-none bytes f o steps (inl own) is none = inl (none ∙ sym (steps-fault (request_in (frame_in bytes)) f own))
-HasSteps-none bytes f o steps (inr memory) is none = inr (is ∙ ap (λ (g : Fault). Some (any.Request g)) (memory_of f memory.0), none)
+HasSteps-none : (limits : Limits) (logs : Bool) (bytes : List ℕ) (f : Fault) (o : Option AnyFault) (steps : Option ℕ) → IsFaultOf bytes f → o ≡ Some (any.Request f) → steps ≡ None
+    → HasSteps limits logs (request_in (frame_in bytes)) o steps
+HasSteps-none limits logs bytes f o steps (inl own) is none = inl (none ∙ sym (steps-fault limits logs (request_in (frame_in bytes)) f own))
+HasSteps-none limits logs bytes f o steps (inr memory) is none = inr (is ∙ ap (λ (g : Fault). Some (any.Request g)) (memory_of f memory.0), none)
 
-pub IsFrameUnder-fault : (limits : Limits) (bytes : List ℕ) (f : Fault) (frame : AnswerFrame) → IsFaultOf bytes f → IsFaultFrame f frame → frame.steps ≡ None
-    → IsFrameUnder limits bytes frame
-IsFrameUnder-fault limits bytes f frame of is none = record {
+pub IsFrameUnder-fault : (limits : Limits) (logs : Bool) (bytes : List ℕ) (f : Fault) (frame : AnswerFrame) → IsFaultOf bytes f → IsFaultFrame f frame → frame.steps ≡ None
+    → IsFrameUnder limits logs bytes frame
+IsFrameUnder-fault limits logs bytes f frame of is none = record {
   within = IsFrameRead-fault limits bytes f (bytes_in frame) of is.bytes;
   says = Says-of frame.fault (Some (any.Request f)) (bytes_in frame) is.fault is.bytes;
-  has = HasSteps-none bytes f frame.fault frame.steps of is.fault none;
+  has = HasSteps-none limits logs bytes f frame.fault frame.steps of is.fault none;
 }
 
 -- the first fault of a frame, or `NoMemory`
@@ -297,24 +295,24 @@ short-fault bytes f whole (inl own) other = elim (IsShort-long (frame_in bytes).
 ]
 
 -- a frame that is longer than the limit of bytes, or isn't
-pub IsFrameFrom-long : (limits : Limits) (bytes : List ℕ) (frame : AnswerFrame) → is_longer limits bytes ≡ true → bytes_in frame ≡ answer_bytes (fault TooLong)
-    → frame.fault ≡ Some (any.Request TooLong) → frame.steps ≡ None → IsFrameFrom limits bytes frame
-IsFrameFrom-long limits bytes frame long is says none =
-    subst (λ (b : Bool). MatchBool b (SaysTooLong frame) (IsFrameUnder limits bytes frame)) (sym long)
+pub IsFrameFrom-long : (limits : Limits) (logs : Bool) (bytes : List ℕ) (frame : AnswerFrame) → is_longer limits bytes ≡ true → bytes_in frame ≡ answer_bytes (fault TooLong)
+    → frame.fault ≡ Some (any.Request TooLong) → frame.steps ≡ None → IsFrameFrom limits logs bytes frame
+IsFrameFrom-long limits logs bytes frame long is says none =
+    subst (λ (b : Bool). MatchBool b (SaysTooLong frame) (IsFrameUnder limits logs bytes frame)) (sym long)
     (record { says = record { bytes = is; fault = says }; none = none })
 
-pub IsFrameFrom-read : (limits : Limits) (bytes : List ℕ) (frame : AnswerFrame) → is_longer limits bytes ≡ false → IsFrameUnder limits bytes frame
-    → IsFrameFrom limits bytes frame
-IsFrameFrom-read limits bytes frame short is = subst (λ (b : Bool). MatchBool b (SaysTooLong frame) (IsFrameUnder limits bytes frame)) (sym short) is
+pub IsFrameFrom-read : (limits : Limits) (logs : Bool) (bytes : List ℕ) (frame : AnswerFrame) → is_longer limits bytes ≡ false → IsFrameUnder limits logs bytes frame
+    → IsFrameFrom limits logs bytes frame
+IsFrameFrom-read limits logs bytes frame short is = subst (λ (b : Bool). MatchBool b (SaysTooLong frame) (IsFrameUnder limits logs bytes frame)) (sym short) is
 
 frame_by : Limits → List ℕ → Bool → List ℕ
 frame_by limits bytes long = if long then answer_bytes (fault TooLong) else frame_read limits bytes
 
-within_by : (limits : Limits) (bytes : List ℕ) (frame : AnswerFrame) (long : Bool) → is_longer limits bytes ≡ long
-    → MatchBool long (SaysTooLong frame) (IsFrameUnder limits bytes frame) → IsFrameWithin limits bytes (bytes_in frame)
+within_by : (limits : Limits) (logs : Bool) (bytes : List ℕ) (frame : AnswerFrame) (long : Bool) → is_longer limits bytes ≡ long
+    → MatchBool long (SaysTooLong frame) (IsFrameUnder limits logs bytes frame) → IsFrameWithin limits bytes (bytes_in frame)
 unfolding frame_by
-within_by limits bytes frame true long is = inl (is.says.bytes ∙ sym (ap (frame_by limits bytes) long))
-within_by limits bytes frame false short is = elim is.within [
+within_by limits logs bytes frame true long is = inl (is.says.bytes ∙ sym (ap (frame_by limits bytes) long))
+within_by limits logs bytes frame false short is = elim is.within [
   | inl own ↦ inl (own ∙ sym (ap (frame_by limits bytes) short))
   | inr other ↦ elim other [
     | inl memory ↦ inr (inl (memory.0, memory.1, short))
@@ -322,5 +320,5 @@ within_by limits bytes frame false short is = elim is.within [
   ]
 ]
 
-pub IsFrameWithin-from : (limits : Limits) (bytes : List ℕ) (frame : AnswerFrame) → IsFrameFrom limits bytes frame → IsFrameWithin limits bytes (bytes_in frame)
-IsFrameWithin-from limits bytes frame is = within_by limits bytes frame (is_longer limits bytes) refl is
+pub IsFrameWithin-from : (limits : Limits) (logs : Bool) (bytes : List ℕ) (frame : AnswerFrame) → IsFrameFrom limits logs bytes frame → IsFrameWithin limits bytes (bytes_in frame)
+IsFrameWithin-from limits logs bytes frame is = within_by limits logs bytes frame (is_longer limits bytes) refl is

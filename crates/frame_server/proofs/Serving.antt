@@ -1,17 +1,20 @@
 -- The messages of a stream are its frames.
-use Rattle.std.proofs.Common.{◌≡◌, ◌<◌, ℕ, List, [], ◌∷◌, ◌++◌, length, Option, Some, None, IfSome, Result, OnOk}
-use Rattle.std.proofs.Common.{refl, ap, ◌∙◌, subst, arith, inl, inr}
+use Rattle.std.proofs.Common.{◌≡◌, ◌<◌, ℕ, List, [], ◌∷◌, ◌++◌, length, All, Bool, Option, Some, None, IfSome, Result, OnOk}
+use Rattle.std.proofs.Common.{refl, ap, sym, ◌∙◌, subst, arith, inl, inr}
 use Rattle.std.proofs.lemmas.List.{append-nil}
 use Rattle.std.specs.List.{concat}
 use Rattle.message_server.specs.History.{History}
+use Rattle.message_server.specs.Notes.{Notes, NotesAll, NotesSome}
 use Rattle.message_server.specs.Parting.{IsCut, EndsWith, AnswersAll, CutsSome}
 use Rattle.message_server.specs.Parting as messages
 use Rattle.message_server.specs.Serving.{Answers, CutsShort}
 use Rattle.message_server.specs.Taking.{EndsBy, TakesMessage, StopsIn}
 use Rattle.message_server.proofs.Streams.{OnOk-follows}
+use Rattle.tensor_runner.specs.declared.journal.Entry.{Entry}
 use Rattle.tensor_runner.specs.declared.limits.Limits.{Limits}
 use Rattle.frame_server.specs.Frame.{IsWhole, IsUnfinished}
 use Rattle.frame_server.specs.Limited.{whole_frames_within, AnswersFramesWithin, CutsFramesShortWithin}
+use Rattle.frame_server.specs.NotedFrames.{noted_frames, NotesFrames, NotesSomeFrames}
 use Rattle.frame_server.specs.private.Laws.{joined-frames}
 use Rattle.frame_server.specs.private.Parting.{by_sizes}
 use Rattle.frame_server.specs.private.Taking.{IsKept, TakesFrame, Ends, StopsInFrame}
@@ -109,3 +112,46 @@ module _ (limits : Limits) where
           short = subst (λ (l : List (List ℕ)). CutsShort (whole_frames_within limits) l held c) done cut.short;
         }
   ]
+
+  -- with the entries on the answers
+  module _ (logs : Bool) where
+    pub NotesFrames-all : (stream held : List ℕ) (c : Option (List ℕ)) (n m : Option (List Entry))
+        → NotesAll (noted_frames limits logs) by_sizes stream held c n m → NotesFrames limits logs stream held c n m
+    NotesFrames-all stream held c n m is =
+        let all = is.all in
+        let done : is.messages ≡ all.done = all.all ∙ ap (λ (l : List (List ℕ)). all.done ++ l) all.ending.1 ∙ append-nil all.done in
+        record {
+          frames = all.done;
+          parted = record {
+            joined = all.parted.parted ∙ ap (λ (l : List ℕ). l ++ all.rest) (joined-frames all.done) ∙ ap (λ (l : List ℕ). concat all.done ++ l) all.ending.0;
+            whole = all.parted.whole;
+            unfinished = IsUnfinished-short [] (omega arith);
+          };
+          noted = subst (λ (l : List (List ℕ)). Notes (noted_frames limits logs) l held [] c n m) done is.noted;
+        }
+
+    pub NotesSomeFrames-some : (stream held : List ℕ) (c : Option (List ℕ)) (n m : Option (List Entry))
+        → NotesSome (noted_frames limits logs) by_sizes stream held c n m → NotesSomeFrames limits logs stream held c n m
+    NotesSomeFrames-some stream held c n m some =
+        let frames = some.messages ++ some.next ∷ [] in
+        elim some.begun [
+          | inl front ↦ record {
+            frames = some.messages;
+            next = some.next;
+            rest = front.0;
+            joined = front.1.parted ∙ ap (λ (l : List ℕ). l ++ front.0) (joined-frames frames);
+            whole = front.1.whole;
+            short = some.short;
+          }
+          | inr all ↦
+              let done : all.done ≡ frames = sym (all.all ∙ ap (λ (l : List (List ℕ)). all.done ++ l) all.ending.1 ∙ append-nil all.done) in
+              record {
+                frames = some.messages;
+                next = some.next;
+                rest = all.rest;
+                joined = all.parted.parted ∙ ap (λ (l : List ℕ). l ++ all.rest) (joined-frames all.done)
+                    ∙ ap (λ (l : List (List ℕ)). concat l ++ all.rest) done;
+                whole = subst (λ (l : List (List ℕ)). All IsWhole l) done all.parted.whole;
+                short = some.short;
+              }
+        ]

@@ -13,9 +13,8 @@ ghost use Rattle.frame_server.specs.private.Answering.{IsRefusal};
 ghost use Rattle.frame_server.specs.Frame.{IsWhole, frame_in, header_len, value_count, value_bytes};
 ghost use Rattle.frame_server.specs.Limited.{limit_frame};
 ghost use Rattle.frame_server.specs.private.Taking.{IsKept, frame_under};
-ghost use Rattle.tensor_runner.specs.Limited.{over_limits};
+ghost use Rattle.tensor_runner.specs.Limited.{over_limits, steps_if};
 ghost use Rattle.tensor_runner.specs.Answer.{fault};
-ghost use Rattle.tensor_runner.specs.Work.{steps_of};
 
 use crate::frame::{AnswerFrame, NextFrame, WholeFrame};
 use crate::writing::VALUES_AT_ONCE;
@@ -25,10 +24,7 @@ use std::borrow::CowSlice;
 use std::sync::Wait;
 use std::thread::Threads;
 use std::time::Clock;
-use tensor_runner::{
-    Allowance, AnyFault, Entry, LimitFault, RunFault, eval_until, over_limits, steps_of,
-    unsigned_text,
-};
+use tensor_runner::{Allowance, AnyFault, Entry, LimitFault, RunFault, eval_until, unsigned_text};
 
 /// The frame if an allocation fails: the sizes 17 and 0, and a header of 17 bytes. Like the other
 /// constant frames, it needs no allocation itself.
@@ -67,7 +63,7 @@ pub(crate) fn answer<RT: Threads + Wait + Sync, K: Clock>(
     next: NextFrame,
 ) -> AnswerFrame
     ensures { (bytes : List ℕ) → IsWhole bytes → IsKept bytes next
-        → IsFrameFrom allowance.now.limits bytes result }
+        → IsFrameFrom allowance.now.limits allowance.now.logs bytes result }
 {
     if allowance.limits.is_too_long(next.len()) {
         return too_long();
@@ -83,7 +79,7 @@ fn answer_kept<RT: Threads + Wait + Sync, K: Clock>(
     next: NextFrame,
 ) -> AnswerFrame
     ensures { (bytes : List ℕ) → IsWhole bytes → IsKept bytes next
-        → IsFrameUnder allowance.now.limits bytes result }
+        → IsFrameUnder allowance.now.limits allowance.now.logs bytes result }
 {
     match answered(rt, alloc, allowance, next) {
         Ok(frame) => frame,
@@ -101,7 +97,8 @@ fn answered<RT: Threads + Wait + Sync, K: Clock>(
     next: NextFrame,
 ) -> Result<AnswerFrame, Fault>
     ensures { (bytes : List ℕ) → IsWhole bytes → IsKept bytes next
-        → MatchResult result (IsFrameUnder allowance.now.limits bytes) (IsFaultOf bytes) }
+        → MatchResult result (IsFrameUnder allowance.now.limits allowance.now.logs bytes)
+        (IsFaultOf bytes) }
 {
     match next {
         NextFrame::Whole(frame) => answered_whole(rt, alloc, allowance, frame),
@@ -118,7 +115,8 @@ fn answered_whole<RT: Threads + Wait + Sync, K: Clock>(
 ) -> Result<AnswerFrame, Fault>
     ensures { (bytes : List ℕ) → frame_under frame ≡ frame_in bytes
         → IsShort (header_len bytes) (value_count bytes)
-        → MatchResult result (IsFrameUnder allowance.now.limits bytes) (IsFaultOf bytes) }
+        → MatchResult result (IsFrameUnder allowance.now.limits allowance.now.logs bytes)
+        (IsFaultOf bytes) }
 {
     match requested(alloc, &frame) {
         Ok(request) => Ok(own_frame(rt, alloc, allowance, &request)),
@@ -136,24 +134,26 @@ fn own_frame<RT: Threads + Wait + Sync, K: Clock>(
 ) -> AnswerFrame
     ensures frame { IsOwnFrame (over_limits allowance.now.limits (asked_under request.now))
         allowance.now.limits.seconds (asked_under request.now) result }
-    ensures steps { result.steps ≡ Some (steps_of (asked_under request.now)) }
+    ensures steps { result.steps
+        ≡ steps_if allowance.now.limits allowance.now.logs (asked_under request.now) }
 {
-    let steps = steps_of(request);
-    match over_limits(allowance.limits, request, steps) {
+    let steps = allowance.steps_of(request);
+    match allowance.over_limits(request, steps) {
         Some(fault) => limit_frame(fault, steps),
-        None => match eval_until(rt, alloc, request, &allowance.deadline) {
+        None => match eval_until(rt, alloc, request, allowance) {
             Ok(Some(tensor)) => tensor_frame(alloc, tensor, steps),
             Ok(None) => too_many_seconds(steps),
-            Err(RunFault::NoMemory) => no_memory(Some(steps)),
+            Err(RunFault::NoMemory) => no_memory(steps),
         },
     }
 }
 
-/// Returns the frame of the limit that a request of `steps` steps is over. It needs no allocation.
-fn limit_frame(fault: LimitFault, steps: u128) -> AnswerFrame
+/// Returns the frame of the limit that a request is over, with its steps if they are known. It needs
+/// no allocation.
+fn limit_frame(fault: LimitFault, steps: Option<u128>) -> AnswerFrame
     ensures bytes { bytes_in result ≡ limit_frame fault }
     ensures fault { result.fault ≡ Some (AnyFault.Limit fault) }
-    ensures steps { result.steps ≡ Some steps }
+    ensures steps { result.steps ≡ steps }
 {
     match fault {
         LimitFault::TooManyWorkers => too_many_workers(steps),
@@ -162,66 +162,67 @@ fn limit_frame(fault: LimitFault, steps: u128) -> AnswerFrame
     }
 }
 
-/// Returns the frame for a request of `steps` steps that asks for too many workers.
-fn too_many_workers(steps: u128) -> AnswerFrame
+/// Returns the frame for a request that asks for too many workers.
+fn too_many_workers(steps: Option<u128>) -> AnswerFrame
     ensures bytes { bytes_in result ≡ limit_frame LimitFault.TooManyWorkers }
     ensures fault { result.fault ≡ Some (AnyFault.Limit LimitFault.TooManyWorkers) }
-    ensures steps { result.steps ≡ Some steps }
+    ensures steps { result.steps ≡ steps }
 {
     AnswerFrame {
         front: CowSlice::Borrowed(TOO_MANY_WORKERS),
         tensor: None,
         fault: Some(AnyFault::Limit(LimitFault::TooManyWorkers)),
-        steps: Some(steps),
+        steps,
     }
 }
 
-/// Returns the frame for a request that takes `steps` steps, too many.
-fn too_many_steps(steps: u128) -> AnswerFrame
+/// Returns the frame for a request that takes too many steps.
+fn too_many_steps(steps: Option<u128>) -> AnswerFrame
     ensures bytes { bytes_in result ≡ limit_frame LimitFault.TooManySteps }
     ensures fault { result.fault ≡ Some (AnyFault.Limit LimitFault.TooManySteps) }
-    ensures steps { result.steps ≡ Some steps }
+    ensures steps { result.steps ≡ steps }
 {
     AnswerFrame {
         front: CowSlice::Borrowed(TOO_MANY_STEPS),
         tensor: None,
         fault: Some(AnyFault::Limit(LimitFault::TooManySteps)),
-        steps: Some(steps),
+        steps,
     }
 }
 
-/// Returns the frame for a request of `steps` steps that takes too many seconds.
-fn too_many_seconds(steps: u128) -> AnswerFrame
+/// Returns the frame for a request that takes too many seconds.
+fn too_many_seconds(steps: Option<u128>) -> AnswerFrame
     ensures bytes { bytes_in result ≡ limit_frame LimitFault.TooManySeconds }
     ensures fault { result.fault ≡ Some (AnyFault.Limit LimitFault.TooManySeconds) }
-    ensures steps { result.steps ≡ Some steps }
+    ensures steps { result.steps ≡ steps }
 {
     AnswerFrame {
         front: CowSlice::Borrowed(TOO_MANY_SECONDS),
         tensor: None,
         fault: Some(AnyFault::Limit(LimitFault::TooManySeconds)),
-        steps: Some(steps),
+        steps,
     }
 }
 
-/// Returns the frame of a tensor of a request of `steps` steps, or the frame of `NoMemory`.
-fn tensor_frame(alloc: Global, tensor: Tensor<'static>, steps: u128) -> AnswerFrame
+/// Returns the frame of a tensor, with the steps of its request if they are known, or the frame of
+/// `NoMemory`.
+fn tensor_frame(alloc: Global, tensor: Tensor<'static>, steps: Option<u128>) -> AnswerFrame
     ensures frame { IsTensorFrame tensor.entry result }
-    ensures steps { result.steps ≡ Some steps }
+    ensures steps { result.steps ≡ steps }
 {
     match front_of(alloc, &tensor) {
         Ok(front) => value_frame(front, tensor, steps),
-        Err(_) => no_memory(Some(steps)),
+        Err(_) => no_memory(steps),
     }
 }
 
 /// Returns the frame of a tensor with this front, or the frame of `NoMemory`. Few values are joined
 /// to the front and so written with it: over a network, a second write would wait until the other
 /// side has acknowledged the first.
-fn value_frame(front: Vec<u8>, tensor: Tensor<'static>, steps: u128) -> AnswerFrame
+fn value_frame(front: Vec<u8>, tensor: Tensor<'static>, steps: Option<u128>) -> AnswerFrame
     ensures bytes { ((bytes_in result ≡ front.items ++ flat_map value_bytes tensor.entry.values)
         × (result.fault ≡ None)) ⊎ IsFaultFrame Fault.NoMemory result }
-    ensures steps { result.steps ≡ Some steps }
+    ensures steps { result.steps ≡ steps }
 {
     let count = tensor.values().len();
     if count > VALUES_AT_ONCE {
@@ -229,7 +230,7 @@ fn value_frame(front: Vec<u8>, tensor: Tensor<'static>, steps: u128) -> AnswerFr
             front: CowSlice::Owned(front),
             tensor: Some(tensor),
             fault: None,
-            steps: Some(steps),
+            steps,
         };
     }
     match joined(front, tensor.values()) {
@@ -237,9 +238,9 @@ fn value_frame(front: Vec<u8>, tensor: Tensor<'static>, steps: u128) -> AnswerFr
             front: CowSlice::Owned(bytes),
             tensor: None,
             fault: None,
-            steps: Some(steps),
+            steps,
         },
-        Err(_) => no_memory(Some(steps)),
+        Err(_) => no_memory(steps),
     }
 }
 
@@ -307,7 +308,7 @@ fn refusal(alloc: Global, fault: Fault) -> AnswerFrame
     }
 }
 
-/// Returns the frame of `NoMemory`, for a request of `steps` steps if they are known. It needs no
+/// Returns the frame of `NoMemory`, with the steps of its request if they are known. It needs no
 /// allocation.
 fn no_memory(steps: Option<u128>) -> AnswerFrame
     ensures bytes { bytes_in result ≡ answer_bytes (fault Fault.NoMemory) }

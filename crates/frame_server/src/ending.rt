@@ -32,5 +32,6 @@ where
         (C.read_failures client.old, C.read_failures client.new)
         (C.write_failures client.old, C.write_failures client.new) result }
 {
-    ending_of(answer_frames(rt, alloc, service, client))
+    let (_, ended) = answer_frames(rt, alloc, service, client);
+    ending_of(ended)
 }

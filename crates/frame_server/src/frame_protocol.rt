@@ -5,6 +5,7 @@
 ghost use Rattle.std.specs.Thread.{IsSync};
 ghost use Rattle.frame_server.specs.Frame.{IsWhole};
 ghost use Rattle.frame_server.specs.Limited.{whole_frames_within};
+ghost use Rattle.frame_server.specs.NotedFrames.{IsEntry};
 ghost use Rattle.frame_server.specs.private.Answering.{bytes_in, most_writes};
 ghost use Rattle.frame_server.specs.private.Laws.{laws};
 ghost use Rattle.frame_server.specs.private.Parting.{by_sizes};
@@ -40,15 +41,18 @@ pub(crate) struct NotedFrame {
 
 impl<RT: Threads + Wait + Sync, J: Journal + Drop, K: Clock + Drop> Protocol<RT>
     for FrameProtocol<J, K> {
-    type Rules = Limits;
+    // The limits, and whether the journal notes steps.
+    type Rules = (Limits, bool);
 
     type Message = NextFrame;
 
     type Answer = NotedFrame;
 
-    ghost rules = { λ s. s.service.limits };
+    type Note = Entry;
 
-    ghost framing = { whole_frames_within };
+    ghost rules = { λ s. (s.service.limits, J.logs s.service.journal) };
+
+    ghost framing = { λ rules. whole_frames_within rules.0 };
 
     ghost parting = { by_sizes };
 
@@ -56,11 +60,17 @@ impl<RT: Threads + Wait + Sync, J: Journal + Drop, K: Clock + Drop> Protocol<RT>
 
     ghost told = { λ answer. bytes_in answer.frame };
 
+    ghost notes = { λ s. J.noted s.service.journal };
+
+    ghost note_on = { λ answer. answer.entry };
+
+    ghost is_note = { λ rules. IsEntry rules.0 rules.1 };
+
     ghost most_writes = { λ answer. most_writes answer.frame };
 
     ghost can_answer = { IsSync RT.row };
 
-    ghost laws = { laws };
+    ghost laws = { λ rules. laws rules.0 };
 
     fn take<C: Client>(
         &mut self,
@@ -81,7 +91,8 @@ impl<RT: Threads + Wait + Sync, J: Journal + Drop, K: Clock + Drop> Protocol<RT>
     fn answer(&mut self, rt: &RT, next: NextFrame) -> NotedFrame {
         self.service.journal.begin();
         let length = next.len();
-        let allowance = Allowance::begin(self.service.limits, &self.service.clock);
+        let logs = self.service.journal.notes_steps();
+        let allowance = Allowance::begin(self.service.limits, logs, &self.service.clock);
         let frame = answer(rt, self.alloc, &allowance, next);
         let entry = entry_of(length, &frame);
         NotedFrame { frame, entry }

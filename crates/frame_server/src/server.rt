@@ -4,6 +4,7 @@
 ghost use Rattle.std.specs.Prelude.{◌≡◌, ℕ, List, Some, Err, IfSome, OnOk};
 ghost use Rattle.frame_server.specs.Limited.{GoesByFramesWithin, AnswersFramesWithin};
 ghost use Rattle.frame_server.specs.Limited.{BreaksOffWithin, CutsFramesShortWithin};
+ghost use Rattle.frame_server.specs.NotedFrames.{NotesFrames, NotesSomeFrames, NotesWholeFrames};
 ghost use Rattle.frame_server.specs.Stream.{StopsReading};
 ghost use Rattle.message_server.specs.History.{IsNew};
 ghost use Rattle.message_server.specs.Streams.{HasFailed};
@@ -26,7 +27,8 @@ use tensor_runner::{Journal, Service};
 ///
 /// A frame that is too long is skipped and answered by `TooLong`. If an allocation fails, only the
 /// frame that needed it is answered by `NoMemory`. Between two frames two buffers of 65,536 bytes
-/// are kept, and nothing else. An answer of up to 8,192 values is one write.
+/// are kept, and nothing else. An answer of up to 8,192 values is one write. The journal is returned at
+/// the end.
 ///
 /// # Errors
 ///
@@ -37,7 +39,7 @@ pub fn answer_frames<RT, C: Client, J: Journal + Drop, K: Clock + Drop>(
     alloc: Global,
     service: Service<J, K>,
     client: &mut C,
-) -> Result<(), StreamFault>
+) -> (J, Result<(), StreamFault>)
 where
     RT: Threads + Wait + Sync,
     requires by_frames { GoesByFramesWithin service.limits C.owes_nothing }
@@ -45,24 +47,40 @@ where
 
     ensures answered { (stream held : List ℕ) → C.remaining client.old ≡ Some stream
         → C.contents client.old ≡ Some held
-        → OnOk result (AnswersFramesWithin service.limits stream held (C.contents client.new)) }
+        → OnOk result.1
+        (AnswersFramesWithin service.limits stream held (C.contents client.new)) }
     // A frame that isn't whole gets no answer.
     ensures broken_off { (stream held : List ℕ) → C.remaining client.old ≡ Some stream
-        → C.contents client.old ≡ Some held → result ≡ Err StreamFault.ReadFault
+        → C.contents client.old ≡ Some held → result.1 ≡ Err StreamFault.ReadFault
         → BreaksOffWithin service.limits stream held (C.remaining client.new)
         (C.contents client.new) }
     ensures cut_short { (stream held : List ℕ) → C.remaining client.old ≡ Some stream
-        → C.contents client.old ≡ Some held → result ≡ Err StreamFault.WriteFault
+        → C.contents client.old ≡ Some held → result.1 ≡ Err StreamFault.WriteFault
         → CutsFramesShortWithin service.limits stream held (C.contents client.new) }
 
-    ensures read_fault { result ≡ Err StreamFault.ReadFault
+    ensures noted { (stream held : List ℕ) → C.remaining client.old ≡ Some stream
+        → C.contents client.old ≡ Some held
+        → OnOk result.1 (NotesFrames service.limits (J.logs service.journal) stream held
+        (C.contents client.new) (J.noted service.journal) (J.noted result.0)) }
+    ensures noted_whole { (stream held : List ℕ) → C.remaining client.old ≡ Some stream
+        → C.contents client.old ≡ Some held → result.1 ≡ Err StreamFault.ReadFault
+        → NotesWholeFrames service.limits (J.logs service.journal) stream held
+        (C.remaining client.new) (C.contents client.new)
+        (J.noted service.journal) (J.noted result.0) }
+    // An answer that wasn't written whole is not noted.
+    ensures noted_some { (stream held : List ℕ) → C.remaining client.old ≡ Some stream
+        → C.contents client.old ≡ Some held → result.1 ≡ Err StreamFault.WriteFault
+        → NotesSomeFrames service.limits (J.logs service.journal) stream held
+        (C.contents client.new) (J.noted service.journal) (J.noted result.0) }
+
+    ensures read_fault { result.1 ≡ Err StreamFault.ReadFault
         → StopsReading (C.read_failures client.old) (C.read_failures client.new)
         (C.remaining client.old) (C.remaining client.new)
         × (C.write_failures client.new ≡ C.write_failures client.old) }
-    ensures write_fault { result ≡ Err StreamFault.WriteFault
+    ensures write_fault { result.1 ≡ Err StreamFault.WriteFault
         → (C.read_failures client.new ≡ C.read_failures client.old)
         × HasFailed (C.write_failures client.old) (C.write_failures client.new) }
-    ensures no_failure { OnOk result ((C.read_failures client.new ≡ C.read_failures client.old)
+    ensures no_failure { OnOk result.1 ((C.read_failures client.new ≡ C.read_failures client.old)
         × (C.write_failures client.new ≡ C.write_failures client.old)) }
 {
     let mut protocol = FrameProtocol {
@@ -70,5 +88,6 @@ where
         service,
         room: OutputBuffer::new(),
     };
-    answer_messages(rt, client, &mut protocol)
+    let ended = answer_messages(rt, client, &mut protocol);
+    (protocol.service.journal, ended)
 }

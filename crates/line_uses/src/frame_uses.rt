@@ -48,6 +48,6 @@ pub fn frames_answering<RT: Threads + Wait + Sync>(
         writes: 0,
         asking: PhantomData,
     };
-    let ended = answer_frames(rt, alloc, Service::plain(), &mut client);
+    let (_, ended) = answer_frames(rt, alloc, Service::plain(), &mut client);
     (client.answers, ended)
 }

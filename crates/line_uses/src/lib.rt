@@ -1,5 +1,5 @@
 //! Uses of the servers of lines and of frames, by clients whose streams and history are known. They
-//! show that the rules of `Client` can be met, and what the servers' promises say then. A change of
+//! show that the rules of `Client` and of `Journal` can be met, and what the servers' promises say then. A change of
 //! `Client`, `answer_lines` or `answer_frames` touches this crate.
 #![tactic(auto)]
 
@@ -8,11 +8,15 @@ ghost use Rattle.tensor_runner.specs.Limited.{no_limits, AnswersLinesWithin};
 ghost use Rattle.tensor_runner.specs.Lines.{lines_of};
 
 mod frame_uses;
+mod journal_uses;
+#[cfg(test)]
+mod notes;
 mod recorded;
 #[cfg(test)]
 mod streams;
 
 pub use frame_uses::{ByFrames, frames_answering};
+pub use journal_uses::{Kept, lines_noted};
 pub use recorded::{Asking, Recorded};
 use std::alloc::Global;
 use std::marker::PhantomData;
@@ -52,6 +56,7 @@ pub fn answers_of<RT: Threads + Wait + Sync>(
         writes: 0,
         asking: PhantomData,
     };
-    answer_lines(rt, alloc, Service::plain(), &mut client)?;
+    let (_, ended) = answer_lines(rt, alloc, Service::plain(), &mut client);
+    ended?;
     Ok(client.answers)
 }

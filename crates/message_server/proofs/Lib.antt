@@ -1,4 +1,5 @@
 pub mod Streams
 pub mod Histories
+pub mod Notes
 pub mod Takings
 pub mod Serving

@@ -1,7 +1,6 @@
 -- From message to message.
-use Rattle.std.proofs.Common.{◌≡◌, ◌<◌, ◌+◌, ℕ, List, [], ◌∷◌, ◌++◌, length, take, All}
+use Rattle.std.proofs.Common.{◌≡◌, ◌<◌, ℕ, List, [], ◌∷◌, ◌++◌, length, take, All}
 use Rattle.std.proofs.Common.{Result, Ok, Err, OnOk, Option, Some, None, IfSome, option_map, refl, ap, sym, ◌∙◌, subst, append_assoc, arith, length-append, inl, inr}
-use Rattle.std.proofs.Math.Seq.{take-append-add}
 use Rattle.std.proofs.lemmas.List.{append-nil, take-append-le}
 use Rattle.std.proofs.lemmas.List.Concat.{flat_map-append}
 use Rattle.std.proofs.lemmas.List.Elements.{All-push, All-nil}
@@ -9,15 +8,17 @@ use Rattle.std.specs.Io.KnownBytes.{Appends, Consumes, IsAtEnd}
 use Rattle.std.specs.Prelude.{MatchResult}
 use Rattle.message_server.specs.Ending.{IsQuiet, IsComplaint, EndsServing}
 use Rattle.message_server.specs.History.{History, IsNew, reading, writing}
-use Rattle.message_server.specs.Parting.{Parting, joined, IsParted, AreAll, StopsReading, EndsWith, AnswersAll, CutsSome, Laws}
+use Rattle.message_server.specs.Notes.{Adds, noting, notes_on, NotesShort, NotesWhole, NotesAll, NotesSome}
+use Rattle.message_server.specs.Parting.{Parting, joined, IsParted, AreAll, StopsReading, EndsWith, Laws}
 use Rattle.message_server.specs.Pieces.{AppendsFront, OwesNothingWhile}
 use Rattle.message_server.specs.Server.{IsAllOf, Serves}
 use Rattle.message_server.specs.Taking.{EndsBy, TakesMessage, StopsIn}
-use Rattle.message_server.specs.Serving.{Framing, AreAnswers, bytes_answering, BreaksOff, CutsShort, GoesBy}
+use Rattle.message_server.specs.Serving.{Framing, AreAnswers, bytes_answering, CutsShort, GoesBy}
 use Rattle.message_server.specs.Streams.{HasFailed}
 use Rattle.message_server.specs.declared.ending.Ending.{Ending}
 use Rattle.message_server.specs.declared.fault.StreamFault.{StreamFault}
 use Rattle.message_server.specs.declared.fault.StreamFault.TheVariants.{ReadFault, WriteFault}
+use Rattle.message_server.proofs.Notes.{Adds-none, Adds-same, Adds-more, notes_on-append, answers-append}
 use Rattle.message_server.proofs.Streams.{Consumes-trans, Consumes-none, Consumes-Some, Appends-trans, Appends-none, Appends-Some}
 
 -- before the first message
@@ -40,27 +41,23 @@ appended_of : (c0 c1 : Option (List ℕ)) (held xs : List ℕ) → Appends c0 c1
 appended_of c0 c1 held xs appended known = Appends-Some held c1 xs (subst (λ (o : Option (List ℕ)). Appends o c1 xs) known appended)
 
 -- rules that stayed the same
-module _ {R A : Type 0} (framing : R → Framing A) (r s : R) (same : s ≡ r) where
-  pub answers-by : (message : List ℕ) (a : A) → (framing s).IsAnswer message a → (framing r).IsAnswer message a
-  answers-by message a = subst (λ (x : R). (framing x).IsAnswer message a) same
+module _ {R A N : Type 0} (framing : R → Framing A) (IsNote : R → List ℕ → A → N → Type 0) (r s : R) (same : s ≡ r) where
+  abbrev by : R → Framing (A × N)
+  by x = noting (framing x) (IsNote x)
 
-  pub appends-by : (c0 c1 : Option (List ℕ)) (a : A) → Appends c0 c1 ((framing s).bytes_of a) → Appends c0 c1 ((framing r).bytes_of a)
-  appends-by c0 c1 a = subst (λ (x : R). Appends c0 c1 ((framing x).bytes_of a)) same
+  pub answers-by : (message : List ℕ) (a : A × N) → (by s).IsAnswer message a → (by r).IsAnswer message a
+  answers-by message a = subst (λ (x : R). (by x).IsAnswer message a) same
 
-  pub writing-by : (h k : Option History) (a : A) → k ≡ option_map (writing ((framing s).bytes_of a)) h → k ≡ option_map (writing ((framing r).bytes_of a)) h
-  writing-by h k a = subst (λ (x : R). k ≡ option_map (writing ((framing x).bytes_of a)) h) same
+  pub appends-by : (c0 c1 : Option (List ℕ)) (a : A × N) → Appends c0 c1 ((by s).bytes_of a) → Appends c0 c1 ((by r).bytes_of a)
+  appends-by c0 c1 a = subst (λ (x : R). Appends c0 c1 ((by x).bytes_of a)) same
 
-  pub front-by : (c0 c1 : Option (List ℕ)) (a : A) → AppendsFront c0 c1 ((framing s).bytes_of a) → AppendsFront c0 c1 ((framing r).bytes_of a)
-  front-by c0 c1 a = subst (λ (x : R). AppendsFront c0 c1 ((framing x).bytes_of a)) same
+  pub writing-by : (h k : Option History) (a : A × N) → k ≡ option_map (writing ((by s).bytes_of a)) h → k ≡ option_map (writing ((by r).bytes_of a)) h
+  writing-by h k a = subst (λ (x : R). k ≡ option_map (writing ((by x).bytes_of a)) h) same
+
+  pub front-by : (c0 c1 : Option (List ℕ)) (a : A × N) → AppendsFront c0 c1 ((by s).bytes_of a) → AppendsFront c0 c1 ((by r).bytes_of a)
+  front-by c0 c1 a = subst (λ (x : R). AppendsFront c0 c1 ((by x).bytes_of a)) same
 
 module _ {A : Type 0} (f : Framing A) where
-  pub answers-append : (ms more : List (List ℕ)) (given others : List A) → AreAnswers f ms given → AreAnswers f more others
-      → AreAnswers f (ms ++ more) (given ++ others)
-  answers-append [] more [] others first then = then
-  answers-append [] more (a ∷ given) others first then = absurd first
-  answers-append (m ∷ ms) more [] others first then = absurd first
-  answers-append (m ∷ ms) more (a ∷ given) others first then = (first.0, answers-append ms more given others first.1 then)
-
   one_more : (given : List A) (a : A) → bytes_answering f given ++ f.bytes_of a ≡ bytes_answering f (given ++ a ∷ [])
   one_more given a =
       ap (λ (l : List ℕ). bytes_answering f given ++ l) (sym (append-nil (f.bytes_of a))) ∙ sym (flat_map-append f.bytes_of given (a ∷ []))
@@ -74,7 +71,7 @@ module _ {A : Type 0} (f : Framing A) where
       let short : cut.front < length (bytes_answering f cut.answers) = cut.short in
       record {
         answers = cut.answers ++ others;
-        answered = answers-append ms more cut.answers others cut.answered are;
+        answered = answers-append f ms more cut.answers others cut.answered are;
         front = cut.front;
         short = omega (arith, short, ap length all, length-append (bytes_answering f cut.answers) (bytes_answering f others));
         written = cut.written ∙ ap (λ (l : List ℕ). Some (held ++ l))
@@ -82,14 +79,21 @@ module _ {A : Type 0} (f : Framing A) where
             ∙ take-append-le cut.front (bytes_answering f cut.answers) (bytes_answering f others) (omega (arith, short))));
       }
 
+-- answers with notes
+module _ {A N : Type 0} (f : Framing (A × N)) where
+  noted-more : (j0 j1 j2 : Option (List N)) (given more : List (A × N)) → Adds (notes_on given) j0 j1 → Adds (notes_on more) j1 j2
+      → Adds (notes_on (given ++ more)) j0 j2
+  noted-more j0 j1 j2 given more first then =
+      subst (λ (l : List N). Adds l j0 j2) (sym (notes_on-append given more)) (Adds-more j0 j1 j2 (notes_on given) (notes_on more) first then)
+
   module _ (p : Parting) (laws : Laws p f) where
     joined-push : (done : List (List ℕ)) (message rest : List ℕ) → joined p (done ++ message ∷ []) ++ rest ≡ joined p done ++ (p.with_end message ++ rest)
     joined-push done message rest =
         ap (λ (l : List ℕ). l ++ rest) (flat_map-append p.with_end done (message ∷ []) ∙ ap (λ (l : List ℕ). joined p done ++ l) (append-nil (p.with_end message)))
         ∙ append_assoc (joined p done) (p.with_end message) rest
 
-    pub Serves-start : (r c : Option (List ℕ)) (h : Option History) (pending : List ℕ) → pending ≡ [] → IfSome h IsNew → Serves f p r r c c h pending
-    Serves-start r c h pending nothing new = record {
+    pub Serves-start : (r c : Option (List ℕ)) (h : Option History) (j : Option (List N)) (pending : List ℕ) → pending ≡ [] → IfSome h IsNew → Serves f p r r c c h j j pending
+    Serves-start r c h j pending nothing new = record {
       done = [];
       answers = [];
       consumed = subst (λ (l : List ℕ). Consumes r r l) (sym nothing) (Consumes-none r);
@@ -97,13 +101,14 @@ module _ {A : Type 0} (f : Framing A) where
       answered = tt;
       appended = Appends-none c;
       noted = IsAllOf-new h pending nothing new;
+      added = Adds-none j;
     }
 
     -- nothing is owed while a message isn't whole
-    pub Serves-owes : (r0 r1 c0 c1 : Option (List ℕ)) (h : Option History) (pending : List ℕ) (owes : History → Type 0)
-        → Serves f p r0 r1 c0 c1 h pending → GoesBy f owes → IfSome h (OwesNothingWhile p.IsUnfinished owes pending)
-    Serves-owes r0 r1 c0 c1 None pending owes s goes = tt
-    Serves-owes r0 r1 c0 c1 (Some h) pending owes s goes = λ more unfinished.
+    pub Serves-owes : (r0 r1 c0 c1 : Option (List ℕ)) (h : Option History) (j0 j1 : Option (List N)) (pending : List ℕ) (owes : History → Type 0)
+        → Serves f p r0 r1 c0 c1 h j0 j1 pending → GoesBy f owes → IfSome h (OwesNothingWhile p.IsUnfinished owes pending)
+    Serves-owes r0 r1 c0 c1 None j0 j1 pending owes s goes = tt
+    Serves-owes r0 r1 c0 c1 (Some h) j0 j1 pending owes s goes = λ more unfinished.
         let taken : joined p s.done ++ (pending ++ more) ≡ h.taken ++ more =
         sym (ap (λ (l : List ℕ). l ++ more) s.noted.0 ∙ append_assoc (joined p s.done) pending more) in
         goes (reading more h) (record {
@@ -134,9 +139,9 @@ module _ {A : Type 0} (f : Framing A) where
           known.2 ∙ ap Some none,
         )
 
-    all_of : (r0 r1 r2 c0 c1 : Option (List ℕ)) (h k : Option History) (old stream : List ℕ) (last : List (List ℕ)) (s : Serves f p r0 r1 c0 c1 h old)
+    all_of : (r0 r1 r2 c0 c1 : Option (List ℕ)) (h k : Option History) (j0 j1 : Option (List N)) (old stream : List ℕ) (last : List (List ℕ)) (s : Serves f p r0 r1 c0 c1 h j0 j1 old)
         → EndsBy p r1 r2 h k old last → r0 ≡ Some stream → AreAll p stream (s.done ++ last)
-    all_of r0 r1 r2 c0 c1 h k old stream last s e knows = record {
+    all_of r0 r1 r2 c0 c1 h k j0 j1 old stream last s e knows = record {
       done = s.done;
       rest = old ++ e.read;
       parted = (whole_stream r0 r1 r2 s.done old e.read stream s.consumed e.reads.consumed e.at_end s.whole knows).0;
@@ -145,35 +150,40 @@ module _ {A : Type 0} (f : Framing A) where
       all = refl;
     }
 
-    -- the client's bytes ended, and what stands behind the ended messages was answered
-    pub Serves-end : (r0 r1 r2 c0 c1 c2 c3 : Option (List ℕ)) (h k : Option History) (old stream held : List ℕ) (last : List (List ℕ)) (given : List A)
-        → Serves f p r0 r1 c0 c1 h old → EndsBy p r1 r2 h k old last → AreAnswers f last given → c2 ≡ c1 → Appends c2 c3 (bytes_answering f given)
-        → r0 ≡ Some stream → c0 ≡ Some held → AnswersAll p f stream held c3
-    Serves-end r0 r1 r2 c0 c1 c2 c3 h k old stream held last given s e are quiet written knows holds = record {
+    -- the client's bytes ended, and what stands behind the ended messages was answered and noted
+    pub Serves-end : (r0 r1 r2 c0 c1 c2 c3 : Option (List ℕ)) (h k : Option History) (j0 j1 j2 : Option (List N)) (old stream held : List ℕ)
+        (last : List (List ℕ)) (given : List (A × N)) → Serves f p r0 r1 c0 c1 h j0 j1 old → EndsBy p r1 r2 h k old last → AreAnswers f last given
+        → c2 ≡ c1 → Appends c2 c3 (bytes_answering f given) → Adds (notes_on given) j1 j2
+        → r0 ≡ Some stream → c0 ≡ Some held → NotesAll f p stream held c3 j0 j2
+    Serves-end r0 r1 r2 c0 c1 c2 c3 h k j0 j1 j2 old stream held last given s e are quiet written noted knows holds = record {
       messages = s.done ++ last;
-      all = all_of r0 r1 r2 c0 c1 h k old stream last s e knows;
-      answered = record {
+      all = all_of r0 r1 r2 c0 c1 h k j0 j1 old stream last s e knows;
+      noted = record {
         answers = s.answers ++ given;
-        answered = answers-append s.done last s.answers given s.answered are;
+        answered = answers-append f s.done last s.answers given s.answered are;
         written = appended_of c0 c3 held (bytes_answering f s.answers ++ bytes_answering f given)
             (Appends-trans c0 c1 c3 (bytes_answering f s.answers) (bytes_answering f given) s.appended
             (subst (λ (o : Option (List ℕ)). Appends o c3 (bytes_answering f given)) quiet written)) holds
-            ∙ ap (λ (l : List ℕ). Some (held ++ l)) (sym (flat_map-append f.bytes_of s.answers given));
+            ∙ ap (λ (l : List ℕ). Some (held ++ l))
+            (sym (append-nil (bytes_answering f (s.answers ++ given)) ∙ flat_map-append f.bytes_of s.answers given));
+        noted = noted-more j0 j1 j2 s.answers given s.added noted;
       };
     }
 
-    pub Serves-last : (r0 r1 r2 c0 c1 c2 c3 : Option (List ℕ)) (h k : Option History) (old stream held message : List ℕ) (a : A)
-        → Serves f p r0 r1 c0 c1 h old → EndsBy p r1 r2 h k old (message ∷ []) → f.IsAnswer message a → c2 ≡ c1 → Appends c2 c3 (f.bytes_of a)
-        → r0 ≡ Some stream → c0 ≡ Some held → AnswersAll p f stream held c3
-    Serves-last r0 r1 r2 c0 c1 c2 c3 h k old stream held message a s e answers quiet written knows holds =
-        Serves-end r0 r1 r2 c0 c1 c2 c3 h k old stream held (message ∷ []) (a ∷ []) s e (answers, tt) quiet
-        (subst (λ (l : List ℕ). Appends c2 c3 l) (sym (append-nil (f.bytes_of a))) written) knows holds
+    pub Serves-last : (r0 r1 r2 c0 c1 c2 c3 : Option (List ℕ)) (h k : Option History) (j0 j1 j2 j3 : Option (List N)) (old stream held message : List ℕ)
+        (a : A × N) → Serves f p r0 r1 c0 c1 h j0 j1 old → EndsBy p r1 r2 h k old (message ∷ []) → f.IsAnswer message a
+        → c2 ≡ c1 → Appends c2 c3 (f.bytes_of a) → j2 ≡ j1 → Adds (a.1 ∷ []) j2 j3
+        → r0 ≡ Some stream → c0 ≡ Some held → NotesAll f p stream held c3 j0 j3
+    Serves-last r0 r1 r2 c0 c1 c2 c3 h k j0 j1 j2 j3 old stream held message a s e answers quiet written same noted knows holds =
+        Serves-end r0 r1 r2 c0 c1 c2 c3 h k j0 j1 j3 old stream held (message ∷ []) (a ∷ []) s e (answers, tt) quiet
+        (subst (λ (l : List ℕ). Appends c2 c3 l) (sym (append-nil (f.bytes_of a))) written)
+        (subst (λ (o : Option (List N)). Adds (a.1 ∷ []) o j3) same noted) knows holds
 
     -- no more was read in a message
-    pub Serves-stops : (r0 r1 r2 c0 c1 c2 : Option (List ℕ)) (h : Option History) (failed fails : ℕ) (old stream held : List ℕ)
-        → Serves f p r0 r1 c0 c1 h old → StopsIn p r1 r2 failed fails old → c2 ≡ c1 → r0 ≡ Some stream → c0 ≡ Some held
-        → BreaksOff f stream held r2 c2
-    Serves-stops r0 r1 r2 c0 c1 c2 h failed fails old stream held s stops quiet knows holds =
+    pub Serves-stops : (r0 r1 r2 c0 c1 c2 : Option (List ℕ)) (h : Option History) (j0 j1 j2 : Option (List N)) (failed fails : ℕ) (old stream held : List ℕ)
+        → Serves f p r0 r1 c0 c1 h j0 j1 old → StopsIn p r1 r2 failed fails old → c2 ≡ c1 → j2 ≡ j1 → r0 ≡ Some stream → c0 ≡ Some held
+        → NotesWhole f stream held r2 c2 j0 j2
+    Serves-stops r0 r1 r2 c0 c1 c2 h j0 j1 j2 failed fails old stream held s stops quiet same knows holds =
         let known = stream_of r0 r1 r2 stream (joined p s.done ++ old) stops.read s.consumed stops.consumed knows in
         record {
           taken = (joined p s.done ++ old) ++ stops.read;
@@ -183,10 +193,12 @@ module _ {A : Type 0} (f : Framing A) where
           messages = s.done;
           whole = subst (λ (l : List ℕ). f.AreWhole l s.done) (sym (append_assoc (joined p s.done) old stops.read))
               (laws.whole s.done (old ++ stops.read) s.whole stops.unfinished);
-          answered = record {
+          noted = record {
             answers = s.answers;
             answered = s.answered;
-            written = quiet ∙ appended_of c0 c1 held (bytes_answering f s.answers) s.appended holds;
+            written = quiet ∙ appended_of c0 c1 held (bytes_answering f s.answers) s.appended holds
+                ∙ ap (λ (l : List ℕ). Some (held ++ l)) (sym (append-nil (bytes_answering f s.answers)));
+            noted = Adds-same j0 j1 j2 (notes_on s.answers) s.added same;
           };
         }
 
@@ -198,40 +210,40 @@ module _ {A : Type 0} (f : Framing A) where
         record { done = done; parted = all.0; nothing = all.1 }
 
     -- why no more was read
-    pub Serves-why : (r0 r1 r2 c0 c1 : Option (List ℕ)) (h : Option History) (first failed fails : ℕ) (old : List ℕ)
-        → Serves f p r0 r1 c0 c1 h old → failed ≡ first → StopsIn p r1 r2 failed fails old → StopsReading p first fails r0 r2
-    Serves-why r0 r1 r2 c0 c1 h first failed fails old s same stops = elim stops.why [
+    pub Serves-why : (r0 r1 r2 c0 c1 : Option (List ℕ)) (h : Option History) (j0 j1 : Option (List N)) (first failed fails : ℕ) (old : List ℕ)
+        → Serves f p r0 r1 c0 c1 h j0 j1 old → failed ≡ first → StopsIn p r1 r2 failed fails old → StopsReading p first fails r0 r2
+    Serves-why r0 r1 r2 c0 c1 h j0 j1 first failed fails old s same stops = elim stops.why [
       | inl broke ↦ inl (subst (λ (n : ℕ). HasFailed n fails) same broke)
       | inr ended ↦ inr (ended.0 ∙ same, old ++ stops.read, ended.2, inside r0 r1 r2 s.done old stops.read s.consumed stops.consumed ended.1 s.whole)
     ]
 
     -- a prefix of the last answer was written
-    cut_short : (r0 r1 c0 c1 c2 c3 : Option (List ℕ)) (h : Option History) (old message held : List ℕ) (a : A) (s : Serves f p r0 r1 c0 c1 h old)
-        → f.IsAnswer message a → c2 ≡ c1 → AppendsFront c2 c3 (f.bytes_of a) → c0 ≡ Some held → CutsShort f (s.done ++ message ∷ []) held c3
-    cut_short r0 r1 c0 c1 c2 c3 h old message held a s answers quiet cut holds =
-        let before = bytes_answering f s.answers in
-        let told : before ++ f.bytes_of a ≡ bytes_answering f (s.answers ++ a ∷ []) = one_more s.answers a in
-        let front : Appends c0 c3 (before ++ take cut.0 (f.bytes_of a)) =
-        Appends-trans c0 c1 c3 before (take cut.0 (f.bytes_of a)) s.appended
-        (subst (λ (o : Option (List ℕ)). Appends o c3 (take cut.0 (f.bytes_of a))) quiet cut.2) in
-        let within : cut.0 < length (f.bytes_of a) = cut.1 in
-        record {
-          answers = s.answers ++ a ∷ [];
-          answered = answers-append s.done (message ∷ []) s.answers (a ∷ []) s.answered (answers, tt);
-          front = length before + cut.0;
-          short = omega (arith, within, ap length told, length-append before (f.bytes_of a));
-          written = appended_of c0 c3 held (before ++ take cut.0 (f.bytes_of a)) front holds
-              ∙ ap (λ (l : List ℕ). Some (held ++ l))
-              (sym (ap (λ (l : List ℕ). take (length before + cut.0) l) (sym told) ∙ take-append-add before (f.bytes_of a) cut.0));
-        }
+    cut_short : (r0 r1 c0 c1 c2 c3 : Option (List ℕ)) (h : Option History) (j0 j1 j2 : Option (List N)) (old message held : List ℕ) (a : A × N)
+        (s : Serves f p r0 r1 c0 c1 h j0 j1 old) → f.IsAnswer message a → c2 ≡ c1 → AppendsFront c2 c3 (f.bytes_of a) → j2 ≡ j1 → c0 ≡ Some held
+        → NotesShort f s.done message held c3 j0 j2
+    cut_short r0 r1 c0 c1 c2 c3 h j0 j1 j2 old message held a s answers quiet cut same holds = record {
+      answer = a;
+      answers_next = answers;
+      front = cut.0;
+      short = cut.1;
+      noted = record {
+        answers = s.answers;
+        answered = s.answered;
+        written = appended_of c0 c3 held (bytes_answering f s.answers ++ take cut.0 (f.bytes_of a))
+            (Appends-trans c0 c1 c3 (bytes_answering f s.answers) (take cut.0 (f.bytes_of a)) s.appended
+            (subst (λ (o : Option (List ℕ)). Appends o c3 (take cut.0 (f.bytes_of a))) quiet cut.2)) holds;
+        noted = Adds-same j0 j1 j2 (notes_on s.answers) s.added same;
+      };
+    }
 
-    pub Serves-cut_last : (r0 r1 r2 c0 c1 c2 c3 : Option (List ℕ)) (h k : Option History) (old stream held message : List ℕ) (a : A)
-        → Serves f p r0 r1 c0 c1 h old → EndsBy p r1 r2 h k old (message ∷ []) → f.IsAnswer message a → c2 ≡ c1 → AppendsFront c2 c3 (f.bytes_of a)
-        → r0 ≡ Some stream → c0 ≡ Some held → CutsSome p f stream held c3
-    Serves-cut_last r0 r1 r2 c0 c1 c2 c3 h k old stream held message a s e answers quiet cut knows holds = record {
-      messages = s.done ++ message ∷ [];
-      begun = inr (all_of r0 r1 r2 c0 c1 h k old stream (message ∷ []) s e knows);
-      short = cut_short r0 r1 c0 c1 c2 c3 h old message held a s answers quiet cut holds;
+    pub Serves-cut_last : (r0 r1 r2 c0 c1 c2 c3 : Option (List ℕ)) (h k : Option History) (j0 j1 j2 : Option (List N)) (old stream held message : List ℕ)
+        (a : A × N) → Serves f p r0 r1 c0 c1 h j0 j1 old → EndsBy p r1 r2 h k old (message ∷ []) → f.IsAnswer message a
+        → c2 ≡ c1 → AppendsFront c2 c3 (f.bytes_of a) → j2 ≡ j1 → r0 ≡ Some stream → c0 ≡ Some held → NotesSome f p stream held c3 j0 j2
+    Serves-cut_last r0 r1 r2 c0 c1 c2 c3 h k j0 j1 j2 old stream held message a s e answers quiet cut same knows holds = record {
+      messages = s.done;
+      next = message;
+      begun = inr (all_of r0 r1 r2 c0 c1 h k j0 j1 old stream (message ∷ []) s e knows);
+      short = cut_short r0 r1 c0 c1 c2 c3 h j0 j1 j2 old message held a s answers quiet cut same holds;
     }
 
     module _ {M : Type 0} (IsKept : List ℕ → M → Type 0) where
@@ -241,37 +253,40 @@ module _ {A : Type 0} (f : Framing A) where
           append_assoc (joined p done) old read ∙ ap (λ (l : List ℕ). joined p done ++ l) is ∙ sym (joined-push done message new)
 
       -- a message more was taken and answered
-      pub Serves-more : (r0 r1 r2 r3 c0 c1 c2 c3 : Option (List ℕ)) (h k m : Option History) (old new : List ℕ) (kept : M) (a : A)
-          → Serves f p r0 r1 c0 c1 h old → (t : TakesMessage p IsKept r1 r2 h k old new kept) → f.IsAnswer t.message a
-          → c2 ≡ c1 → Appends c2 c3 (f.bytes_of a) → m ≡ option_map (writing (f.bytes_of a)) k → r3 ≡ r2 → Serves f p r0 r3 c0 c3 m new
-      Serves-more r0 r1 r2 r3 c0 c1 c2 c3 h k m old new kept a s t answers quiet written noted same =
+      pub Serves-more : (r0 r1 r2 r3 c0 c1 c2 c3 : Option (List ℕ)) (h k m : Option History) (j0 j1 j2 j3 : Option (List N)) (old new : List ℕ) (kept : M)
+          (a : A × N) → Serves f p r0 r1 c0 c1 h j0 j1 old → (t : TakesMessage p IsKept r1 r2 h k old new kept) → f.IsAnswer t.message a
+          → c2 ≡ c1 → Appends c2 c3 (f.bytes_of a) → m ≡ option_map (writing (f.bytes_of a)) k → r3 ≡ r2
+          → j2 ≡ j1 → Adds (a.1 ∷ []) j2 j3 → Serves f p r0 r3 c0 c3 m j0 j3 new
+      Serves-more r0 r1 r2 r3 c0 c1 c2 c3 h k m j0 j1 j2 j3 old new kept a s t answers quiet written noted same still added =
           let read = t.takes.read in
           let message = t.message in
           let all : (joined p s.done ++ old) ++ read ≡ joined p (s.done ++ message ∷ []) ++ new = taken_more s.done old read message new t.takes.parted in
-          let told : bytes_answering f s.answers ++ f.bytes_of a ≡ bytes_answering f (s.answers ++ a ∷ []) = one_more s.answers a in
+          let told : bytes_answering f s.answers ++ f.bytes_of a ≡ bytes_answering f (s.answers ++ a ∷ []) = one_more f s.answers a in
           record {
             done = s.done ++ message ∷ [];
             answers = s.answers ++ a ∷ [];
             consumed = subst (λ (o : Option (List ℕ)). Consumes r0 o (joined p (s.done ++ message ∷ []) ++ new)) (sym same)
                 (subst (λ (l : List ℕ). Consumes r0 r2 l) all (Consumes-trans r0 r1 r2 (joined p s.done ++ old) read s.consumed t.takes.reads.consumed));
             whole = All-push p.IsMessage s.done message s.whole t.whole;
-            answered = answers-append s.done (message ∷ []) s.answers (a ∷ []) s.answered (answers, tt);
+            answered = answers-append f s.done (message ∷ []) s.answers (a ∷ []) s.answered (answers, tt);
             appended = subst (λ (l : List ℕ). Appends c0 c3 l) told
                 (Appends-trans c0 c1 c3 (bytes_answering f s.answers) (f.bytes_of a) s.appended (subst (λ (o : Option (List ℕ)). Appends o c3 (f.bytes_of a)) quiet written));
             noted = subst (λ (l : List ℕ). IfSome m (IsAllOf l (bytes_answering f (s.answers ++ a ∷ [])))) all
                 (subst (λ (l : List ℕ). IfSome m (IsAllOf ((joined p s.done ++ old) ++ read) l)) told
                 (IsAllOf-more h k m read (f.bytes_of a) (joined p s.done ++ old) (bytes_answering f s.answers) s.noted t.takes.reads.noted noted));
+            added = noted-more j0 j2 j3 s.answers (a ∷ []) (Adds-same j0 j1 j2 (notes_on s.answers) s.added still) added;
           }
 
-      pub Serves-cut : (r0 r1 r2 c0 c1 c2 c3 : Option (List ℕ)) (h k : Option History) (old new stream held : List ℕ) (kept : M) (a : A)
-          → Serves f p r0 r1 c0 c1 h old → (t : TakesMessage p IsKept r1 r2 h k old new kept) → f.IsAnswer t.message a
-          → c2 ≡ c1 → AppendsFront c2 c3 (f.bytes_of a) → r0 ≡ Some stream → c0 ≡ Some held → CutsSome p f stream held c3
-      Serves-cut r0 r1 r2 c0 c1 c2 c3 h k old new stream held kept a s t answers quiet cut knows holds =
+      pub Serves-cut : (r0 r1 r2 c0 c1 c2 c3 : Option (List ℕ)) (h k : Option History) (j0 j1 j2 : Option (List N)) (old new stream held : List ℕ) (kept : M)
+          (a : A × N) → Serves f p r0 r1 c0 c1 h j0 j1 old → (t : TakesMessage p IsKept r1 r2 h k old new kept) → f.IsAnswer t.message a
+          → c2 ≡ c1 → AppendsFront c2 c3 (f.bytes_of a) → j2 ≡ j1 → r0 ≡ Some stream → c0 ≡ Some held → NotesSome f p stream held c3 j0 j2
+      Serves-cut r0 r1 r2 c0 c1 c2 c3 h k j0 j1 j2 old new stream held kept a s t answers quiet cut same knows holds =
           let read = t.takes.read in
           let known = stream_of r0 r1 r2 stream (joined p s.done ++ old) read s.consumed t.takes.reads.consumed knows in
           let messages = s.done ++ t.message ∷ [] in
           record {
-            messages = messages;
+            messages = s.done;
+            next = t.message;
             begun = inl (
               new ++ known.0,
               record {
@@ -280,7 +295,7 @@ module _ {A : Type 0} (f : Framing A) where
                 whole = All-push p.IsMessage s.done t.message s.whole t.whole;
               },
             );
-            short = cut_short r0 r1 c0 c1 c2 c3 h old t.message held a s answers quiet cut holds;
+            short = cut_short r0 r1 c0 c1 c2 c3 h j0 j1 j2 old t.message held a s answers quiet cut same holds;
           }
 
 -- what the program ends with

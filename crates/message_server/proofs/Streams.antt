@@ -73,6 +73,10 @@ pub OnOk-follows : {A E : Type 0} (r : Result A E) (X Y : Type 0) → (X → Y) 
 OnOk-follows (Ok x) X Y then holds = then holds
 OnOk-follows (Err e) X Y then holds = tt
 
+pub OnOk-both : {A E : Type 0} (r : Result A E) (X Y Z : Type 0) → (X → Y → Z) → OnOk r X → OnOk r Y → OnOk r Z
+OnOk-both (Ok x) X Y Z then first second = then first second
+OnOk-both (Err e) X Y Z then first second = tt
+
 -- what is so of this failure
 pub OnErr-of : {A E : Type 0} (r : Result A E) (e : E) (X : Type 0) → r ≡ Err e → OnErr r X → X
 OnErr-of {A = A} {E = E} r e X is holds = let x : OnErr {T = A} (Err e) X = subst (λ (s : Result A E). OnErr s X) is holds in x

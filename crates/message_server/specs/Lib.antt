@@ -1,5 +1,6 @@
 pub mod Ending
 pub mod History
+pub mod Notes
 pub mod Parting
 pub mod Serving
 pub mod Streams

@@ -3,6 +3,7 @@
 
 ghost use Rattle.std.specs.Prelude.{◌≡◌, ℕ, List, Some, Err, IfSome, OnOk};
 ghost use Rattle.message_server.specs.History.{IsNew};
+ghost use Rattle.message_server.specs.Notes.{noting, NotesAll, NotesSome, NotesWhole};
 ghost use Rattle.message_server.specs.Parting.{AnswersAll, CutsSome, StopsReading};
 ghost use Rattle.message_server.specs.Serving.{BreaksOff, GoesBy};
 ghost use Rattle.message_server.specs.Streams.{HasFailed};
@@ -14,7 +15,7 @@ use crate::protocol::{Next, Protocol};
 use std::sync::Wait;
 
 /// Answers each message of a client, in order, until the client's bytes end. Each answer is written
-/// before more is read.
+/// before more is read, and is then noted.
 ///
 /// # Errors
 ///
@@ -42,6 +43,24 @@ pub fn answer_messages<RT: Wait, C: Client, P: Protocol<RT>>(
         → C.contents client.old ≡ Some held → result ≡ Err StreamFault.WriteFault
         → CutsSome P.parting (P.framing (P.rules protocol.old))
         stream held (C.contents client.new) }
+
+    ensures noted { (stream held : List ℕ) → C.remaining client.old ≡ Some stream
+        → C.contents client.old ≡ Some held
+        → OnOk result (NotesAll
+        (noting (P.framing (P.rules protocol.old)) (P.is_note (P.rules protocol.old))) P.parting
+        stream held (C.contents client.new) (P.notes protocol.old) (P.notes protocol.new)) }
+    ensures noted_whole { (stream held : List ℕ) → C.remaining client.old ≡ Some stream
+        → C.contents client.old ≡ Some held → result ≡ Err StreamFault.ReadFault
+        → NotesWhole
+        (noting (P.framing (P.rules protocol.old)) (P.is_note (P.rules protocol.old)))
+        stream held (C.remaining client.new) (C.contents client.new)
+        (P.notes protocol.old) (P.notes protocol.new) }
+    // An answer that wasn't written whole gets no note.
+    ensures noted_some { (stream held : List ℕ) → C.remaining client.old ≡ Some stream
+        → C.contents client.old ≡ Some held → result ≡ Err StreamFault.WriteFault
+        → NotesSome
+        (noting (P.framing (P.rules protocol.old)) (P.is_note (P.rules protocol.old))) P.parting
+        stream held (C.contents client.new) (P.notes protocol.old) (P.notes protocol.new) }
 
     ensures read_fault { result ≡ Err StreamFault.ReadFault
         → StopsReading P.parting (C.read_failures client.old) (C.read_failures client.new)

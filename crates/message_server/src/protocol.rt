@@ -2,9 +2,11 @@
 //! and how each is answered. A change here touches `answer_messages` and both impls: `LineProtocol`
 //! of tensor_runner and `FrameProtocol` of frame_server, with their `laws`.
 
-ghost use Rattle.std.specs.Prelude.{◌≡◌, ℕ, List, IfOk, IfSome, IfErr, OnOk, OnErr, option_map};
+ghost use Rattle.std.specs.Prelude.{◌≡◌, ℕ, List, [], ◌∷◌, Option, IfOk, IfSome, IfErr, OnOk, OnErr};
+ghost use Rattle.std.specs.Prelude.{option_map};
 ghost use Rattle.std.specs.Io.KnownBytes.{Appends};
 ghost use Rattle.message_server.specs.History.{writing, AddsAtMost};
+ghost use Rattle.message_server.specs.Notes.{Adds};
 ghost use Rattle.message_server.specs.Parting.{Parting, Laws};
 ghost use Rattle.message_server.specs.Pieces.{pending_bytes, AppendsFront, OwesNothingWhile};
 ghost use Rattle.message_server.specs.Serving.{Framing};
@@ -34,6 +36,8 @@ pub trait Protocol<RT> {
     type Message;
     /// The answer to a message, before it is written.
     type Answer;
+    /// What is noted of a message once its answer was written.
+    type Note;
 
     ghost rules: { Self → Self.Rules };
 
@@ -44,6 +48,14 @@ pub trait Protocol<RT> {
     ghost is_kept: { List ℕ → Self.Message → Type 0 };
 
     ghost told: { Self.Answer → List ℕ };
+
+    // The notes that were made, if they are known.
+    ghost notes: { Self → Option (List Self.Note) };
+
+    ghost note_on: { Self.Answer → Self.Note };
+
+    // Which note a message and the answer that it is told get.
+    ghost is_note: { Self.Rules → List ℕ → List ℕ → Self.Note → Type 0 };
 
     // The most writes that the answer is written by, if each takes all that it is given.
     ghost most_writes: { Self.Answer → ℕ };
@@ -77,16 +89,21 @@ pub trait Protocol<RT> {
         ensures read_failures { OnOk result
             (C.read_failures client.new ≡ C.read_failures client.old) }
         ensures write_failures { C.write_failures client.new ≡ C.write_failures client.old }
-        ensures rules { rules self.new ≡ rules self.old };
+        ensures rules { rules self.new ≡ rules self.old }
+        ensures notes { notes self.new ≡ notes self.old };
 
     /// Computes the answer to a message, and writes nothing.
     fn answer(&mut self, rt: &RT, message: Self::Message) -> Self::Answer
         requires { can_answer }
         ensures answer { (bytes : List ℕ) → is_kept bytes message
             → (framing (rules self.old)).IsAnswer bytes (told result) }
-        ensures rules { rules self.new ≡ rules self.old };
+        ensures note { (bytes : List ℕ) → is_kept bytes message
+            → is_note (rules self.old) bytes (told result) (note_on result) }
+        ensures rules { rules self.new ≡ rules self.old }
+        ensures notes { notes self.new ≡ notes self.old };
 
-    /// Writes the whole answer. Stops at the first write that fails or takes no byte.
+    /// Writes the whole answer, and then makes its note. Stops at the first write that fails or
+    /// takes no byte, without a note.
     ///
     /// # Errors
     ///
@@ -108,7 +125,10 @@ pub trait Protocol<RT> {
             (HasFailed (C.write_failures client.old) (C.write_failures client.new)) }
         ensures remaining { C.remaining client.new ≡ C.remaining client.old }
         ensures read_failures { C.read_failures client.new ≡ C.read_failures client.old }
-        ensures rules { rules self.new ≡ rules self.old };
+        ensures rules { rules self.new ≡ rules self.old }
+        ensures one_note { OnOk result
+            (Adds (note_on answer ∷ []) (notes self.old) (notes self.new)) }
+        ensures no_note { OnErr result (notes self.new ≡ notes self.old) };
 
     ghost laws: { (rules : Self.Rules) → Laws parting (framing rules) };
 }

@@ -8,6 +8,7 @@ pub mod OptionWords
 pub mod Serving
 pub mod Streams
 pub mod Refused
+pub mod Entries
 pub mod Texts
 pub mod Unlimited
 pub mod Parts

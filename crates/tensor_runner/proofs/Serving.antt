@@ -1,12 +1,15 @@
 -- The messages of a text are its lines.
-use Rattle.std.proofs.Common.{◌≡◌, ℕ, List, ◌++◌, Option, Result, OnOk, refl, ap, sym, ◌∙◌, subst, inl, inr}
+use Rattle.std.proofs.Common.{◌≡◌, ℕ, List, [], ◌∷◌, ◌++◌, Bool, Option, Result, OnOk, refl, ap, sym, ◌∙◌, subst, append_assoc, inl, inr}
+use Rattle.message_server.specs.Notes.{NotesAll, NotesSome}
 use Rattle.message_server.specs.Parting.{AreAll, StopsReading, AnswersAll, CutsSome}
 use Rattle.message_server.specs.Streams.{HasFailed}
 use Rattle.message_server.proofs.Serving.{CutsShort-more}
 use Rattle.message_server.proofs.Streams.{OnOk-follows}
 use Rattle.tensor_runner.specs.Limited.{lines_within, AnswersLinesWithin, CutsLinesShortWithin}
 use Rattle.tensor_runner.specs.Lines.{lines_of}
+use Rattle.tensor_runner.specs.NotedLines.{noted_lines, NotesLines, NotesSomeLines}
 use Rattle.tensor_runner.specs.private.Parting.{by_feeds}
+use Rattle.tensor_runner.specs.declared.journal.Entry.{Entry}
 use Rattle.tensor_runner.specs.declared.limits.Limits.{Limits}
 use Rattle.tensor_runner.proofs.Parts.{lines_of-with_feeds, answers_of}
 
@@ -39,3 +42,30 @@ module _ (limits : Limits) where
         (CutsShort-more (lines_within limits) cut.messages (lines_of front.0) others.0 held c others.1 cut.short)
     | inr all ↦ subst (λ (l : List (List ℕ)). CutsLinesShortWithin limits l held c) (lines_in text cut.messages all) cut.short
   ]
+
+  -- with the entries on the answers
+  module _ (logs : Bool) where
+    pub NotesLines-all : (text held : List ℕ) (c : Option (List ℕ)) (n m : Option (List Entry)) → NotesAll (noted_lines limits logs) by_feeds text held c n m
+        → NotesLines limits logs (lines_of text) held c n m
+    NotesLines-all text held c n m all =
+        subst (λ (l : List (List ℕ)). NotesLines limits logs l held c n m) (lines_in text all.messages all.all) all.noted
+
+    pub NotesSomeLines-some : (text held : List ℕ) (c : Option (List ℕ)) (n m : Option (List Entry)) → NotesSome (noted_lines limits logs) by_feeds text held c n m
+        → NotesSomeLines limits logs (lines_of text) held c n m
+    NotesSomeLines-some text held c n m some = elim some.begun [
+      | inl front ↦ record {
+        done = some.messages;
+        next = some.next;
+        more = lines_of front.0;
+        parted = ap lines_of front.1.parted ∙ lines_of-with_feeds (some.messages ++ some.next ∷ []) front.0 front.1.whole
+            ∙ append_assoc some.messages (some.next ∷ []) (lines_of front.0);
+        short = some.short;
+      }
+      | inr all ↦ record {
+        done = some.messages;
+        next = some.next;
+        more = [];
+        parted = sym (lines_in text (some.messages ++ some.next ∷ []) all);
+        short = some.short;
+      }
+    ]

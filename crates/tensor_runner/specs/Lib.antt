@@ -4,6 +4,7 @@ pub use Rattle.expr_reader.specs.Faults
 pub use Rattle.expr_reader.specs.Limits
 pub use Rattle.expr_reader.specs.Request
 pub use Rattle.expr_reader.specs.Value
+pub use Rattle.message_server.specs.Notes
 pub use Rattle.message_server.specs.Serving
 pub use Rattle.message_server.specs.Streams
 pub mod Answer
@@ -14,6 +15,7 @@ pub mod Limited
 pub mod LimitedEnding
 pub mod Line
 pub mod Lines
+pub mod NotedLines
 pub mod Options
 pub mod Run
 pub mod Status

@@ -1,7 +1,7 @@
 -- The limits of a server, and the lines that answer texts under limits.
 use Rattle.std.specs.Prelude.{◌≡◌, ◌⊎◌, ◌≤◌, ℕ, nat_lt, Bool, false, if◌then◌else◌, decimal, codes}
 use Rattle.std.specs.Prelude.{List, [], ◌∷◌, ◌++◌, length, min, Option, Some, None, IsSome}
-use Rattle.std.specs.Prelude.{Result, Ok, Err, IsOk}
+use Rattle.std.specs.Prelude.{Result, Ok, Err, IsOk, is_some, ◌||◌}
 use Rattle.expr_reader.specs.Limits.{most_bytes}
 use Rattle.expr_reader.specs.Request.{Asked, request_of}
 use Rattle.expr_reader.specs.declared.fault.Fault.{Fault}
@@ -34,6 +34,10 @@ abbrev pub over_limits : Limits → Asked → Option LimitFault
 over_limits limits a =
     if is_over limits.workers a.workers then Some TooManyWorkers
     else (if is_over limits.steps (steps_of a) then Some TooManySteps else None)
+
+-- the steps of a request, if steps are limited or noted in a journal
+abbrev pub steps_if : Limits → Bool → Asked → Option ℕ
+steps_if limits logs a = if is_some limits.steps || logs then Some (steps_of a) else None
 
 -- the limit that what was read is over, if any; a fault of the text comes before the limits
 abbrev pub refusal : Limits → Result Asked Fault → Option LimitFault

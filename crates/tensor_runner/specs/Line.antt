@@ -1,6 +1,6 @@
 -- The line that answers a text, before it is written.
 use Rattle.std.specs.Prelude.{◌≡◌, ◌≢◌, ◌⊎◌, ◌≤◌, ℕ, ℤ, List, [], ◌∷◌, ◌++◌, length, map}
-use Rattle.std.specs.Prelude.{Option, Some, None, MatchBool}
+use Rattle.std.specs.Prelude.{Option, Some, None, Bool, MatchBool}
 use Rattle.expr_reader.specs.Limits.{most_bytes}
 use Rattle.std.specs.Cow.{cow_slice_items}
 use Rattle.serde_json.specs.Data.{Data, Items, number}
@@ -79,12 +79,13 @@ IsLineRead limits text line =
 
 -- the line answers a text which may be so long, and its fault and steps are those of the answer. If
 -- the request is over no limit and seconds are not limited, the line is one of an answer to the
--- text.
-pub record IsLineUnder (limits : Limits) (text : List ℕ) (line : Line) : Type 0 where
+-- text. `logs` says whether a journal notes steps.
+pub record IsLineUnder (limits : Limits) (logs : Bool) (text : List ℕ) (line : Line)
+    : Type 0 where
   pub within : IsLineRead limits text (cow_slice_items line.bytes)
   pub own : refusal limits (request_of text) ≡ None → limits.seconds ≡ None → IsLineFor text line
   pub says : Says (cow_slice_items line.bytes) line.fault
-  pub has : HasSteps (request_of text) line.fault line.steps
+  pub has : HasSteps limits logs (request_of text) line.fault line.steps
 
 -- the line says that the text is longer than the limit of bytes, and has no steps
 pub record SaysTooLong (line : Line) : Type 0 where
@@ -92,9 +93,9 @@ pub record SaysTooLong (line : Line) : Type 0 where
   pub none : line.steps ≡ None
 
 -- the line answers the text under limits
-abbrev pub IsLineFrom : Limits → List ℕ → Line → Type 0
-IsLineFrom limits text line =
-    MatchBool (is_longer limits text) (SaysTooLong line) (IsLineUnder limits text line)
+abbrev pub IsLineFrom : Limits → Bool → List ℕ → Line → Type 0
+IsLineFrom limits logs text line =
+    MatchBool (is_longer limits text) (SaysTooLong line) (IsLineUnder limits logs text line)
 
 -- the line answers the text, and the rest of the stream is left
 pub record IsLineOfRead (text : List ℕ) (remaining : Option (List ℕ)) (line : Line) : Type 0 where

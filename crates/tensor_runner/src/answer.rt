@@ -16,7 +16,6 @@ use crate::kept::KeptText;
 use crate::limits::LimitFault;
 use crate::status::{RunFault, Status};
 use crate::text::push_tensor;
-use crate::work::{over_limits, steps_of};
 use expr_reader::{Fault, MAX_TEXT, Tensor, read_request};
 use std::alloc::Global;
 use std::borrow::CowSlice;
@@ -72,7 +71,8 @@ pub(crate) fn answer<RT: Threads + Wait + Sync, K: Clock>(
     allowance: &Allowance<'_, K>,
     kept: KeptText,
 ) -> Line
-    ensures { (text : List ℕ) → IsKept text kept → IsLineFrom allowance.now.limits text result }
+    ensures { (text : List ℕ) → IsKept text kept
+        → IsLineFrom allowance.now.limits allowance.now.logs text result }
 {
     if allowance.limits.is_too_long(kept.len() as u128) {
         return too_long();
@@ -87,7 +87,8 @@ fn answer_kept<RT: Threads + Wait + Sync, K: Clock>(
     allowance: &Allowance<'_, K>,
     kept: KeptText,
 ) -> Line
-    ensures { (text : List ℕ) → IsKept text kept → IsLineUnder allowance.now.limits text result }
+    ensures { (text : List ℕ) → IsKept text kept
+        → IsLineUnder allowance.now.limits allowance.now.logs text result }
 {
     match kept {
         KeptText::Text(text) => answer_text(rt, alloc, allowance, text),
@@ -104,7 +105,7 @@ fn answer_text<RT: Threads + Wait + Sync, K: Clock>(
     allowance: &Allowance<'_, K>,
     text: Vec<u8>,
 ) -> Line
-    ensures { IsLineUnder allowance.now.limits text.items result }
+    ensures { IsLineUnder allowance.now.limits allowance.now.logs text.items result }
 {
     match line_of(rt, alloc, allowance, text) {
         Ok(line) => line,
@@ -121,17 +122,18 @@ fn line_of<RT: Threads + Wait + Sync, K: Clock>(
     allowance: &Allowance<'_, K>,
     text: Vec<u8>,
 ) -> Result<Line, Fault>
-    ensures { MatchResult result (IsLineUnder allowance.now.limits text.items) (IsFaultOf text.items) }
+    ensures { MatchResult result (IsLineUnder allowance.now.limits allowance.now.logs text.items)
+        (IsFaultOf text.items) }
 {
     match read_request(alloc, text.as_slice()) {
         Ok(request) => {
-            let steps = steps_of(&request);
-            match over_limits(allowance.limits, &request, steps) {
+            let steps = allowance.steps_of(&request);
+            match allowance.over_limits(&request, steps) {
                 Some(fault) => Ok(limit_line(fault, steps)),
-                None => match eval_until(rt, alloc, &request, &allowance.deadline) {
+                None => match eval_until(rt, alloc, &request, allowance) {
                     Ok(Some(tensor)) => Ok(tensor_line(alloc, &tensor, text, steps)),
                     Ok(None) => Ok(too_many_seconds(steps)),
-                    Err(RunFault::NoMemory) => Ok(no_memory(Some(steps))),
+                    Err(RunFault::NoMemory) => Ok(no_memory(steps)),
                 },
             }
         }
@@ -139,11 +141,12 @@ fn line_of<RT: Threads + Wait + Sync, K: Clock>(
     }
 }
 
-/// Returns the line of the limit that a request of `steps` steps is over. It needs no allocation.
-fn limit_line(fault: LimitFault, steps: u128) -> Line
+/// Returns the line of the limit that a request is over, with its steps if they are known. It needs
+/// no allocation.
+fn limit_line(fault: LimitFault, steps: Option<u128>) -> Line
     ensures bytes { cow_slice_items result.bytes ≡ limit_line fault }
     ensures fault { result.fault ≡ Some (AnyFault.Limit fault) }
-    ensures steps { result.steps ≡ Some steps }
+    ensures steps { result.steps ≡ steps }
 {
     match fault {
         LimitFault::TooManyWorkers => too_many_workers(steps),
@@ -152,50 +155,50 @@ fn limit_line(fault: LimitFault, steps: u128) -> Line
     }
 }
 
-/// Returns the line for a request of `steps` steps that asks for too many workers.
-fn too_many_workers(steps: u128) -> Line
+/// Returns the line for a request that asks for too many workers.
+fn too_many_workers(steps: Option<u128>) -> Line
     ensures bytes { cow_slice_items result.bytes ≡ limit_line LimitFault.TooManyWorkers }
     ensures fault { result.fault ≡ Some (AnyFault.Limit LimitFault.TooManyWorkers) }
-    ensures steps { result.steps ≡ Some steps }
+    ensures steps { result.steps ≡ steps }
 {
     Line {
         bytes: CowSlice::Borrowed(TOO_MANY_WORKERS),
         status: Status::Fault,
         fault: Some(AnyFault::Limit(LimitFault::TooManyWorkers)),
-        steps: Some(steps),
+        steps,
     }
 }
 
-/// Returns the line for a request that takes `steps` steps, too many.
-fn too_many_steps(steps: u128) -> Line
+/// Returns the line for a request that takes too many steps.
+fn too_many_steps(steps: Option<u128>) -> Line
     ensures bytes { cow_slice_items result.bytes ≡ limit_line LimitFault.TooManySteps }
     ensures fault { result.fault ≡ Some (AnyFault.Limit LimitFault.TooManySteps) }
-    ensures steps { result.steps ≡ Some steps }
+    ensures steps { result.steps ≡ steps }
 {
     Line {
         bytes: CowSlice::Borrowed(TOO_MANY_STEPS),
         status: Status::Fault,
         fault: Some(AnyFault::Limit(LimitFault::TooManySteps)),
-        steps: Some(steps),
+        steps,
     }
 }
 
-/// Returns the line for a request of `steps` steps that takes too many seconds.
-fn too_many_seconds(steps: u128) -> Line
+/// Returns the line for a request that takes too many seconds.
+fn too_many_seconds(steps: Option<u128>) -> Line
     ensures bytes { cow_slice_items result.bytes ≡ limit_line LimitFault.TooManySeconds }
     ensures fault { result.fault ≡ Some (AnyFault.Limit LimitFault.TooManySeconds) }
-    ensures steps { result.steps ≡ Some steps }
+    ensures steps { result.steps ≡ steps }
 {
     Line {
         bytes: CowSlice::Borrowed(TOO_MANY_SECONDS),
         status: Status::Fault,
         fault: Some(AnyFault::Limit(LimitFault::TooManySeconds)),
-        steps: Some(steps),
+        steps,
     }
 }
 
-/// Returns the line `error 15 NoMemory`, for a request of `steps` steps if they are known. It needs
-/// no allocation.
+/// Returns the line `error 15 NoMemory`, with the steps of its request if they are known. It needs no
+/// allocation.
 fn no_memory(steps: Option<u128>) -> Line
     ensures bytes { cow_slice_items result.bytes ≡ fault_line Fault.NoMemory }
     ensures status { result.status ≡ Status.Fault }
@@ -225,11 +228,11 @@ fn too_long() -> Line
     }
 }
 
-/// Returns the line of a tensor of a request of `steps` steps, or the line `error 15 NoMemory`. It
-/// reuses the memory of the request's text, which isn't needed any more.
-fn tensor_line(alloc: Global, tensor: &Tensor, text: Vec<u8>, steps: u128) -> Line
+/// Returns the line of a tensor, with the steps of its request if they are known, or the line
+/// `error 15 NoMemory`. It reuses the memory of the request's text, which isn't needed any more.
+fn tensor_line(alloc: Global, tensor: &Tensor, text: Vec<u8>, steps: Option<u128>) -> Line
     ensures line { IsTensorLine tensor.now result }
-    ensures steps { result.steps ≡ Some steps }
+    ensures steps { result.steps ≡ steps }
 {
     let mut line = text;
     line.clear();
@@ -238,9 +241,9 @@ fn tensor_line(alloc: Global, tensor: &Tensor, text: Vec<u8>, steps: u128) -> Li
             bytes: CowSlice::Owned(line),
             status: Status::Tensor,
             fault: None,
-            steps: Some(steps),
+            steps,
         },
-        Err(_) => no_memory(Some(steps)),
+        Err(_) => no_memory(steps),
     }
 }
 

@@ -76,6 +76,6 @@ fn prepare<RT: Threads + Wait + Sync, R: Source>(
 {
     let kept = read_text(alloc, reader)?;
     let clock = NoClock;
-    let allowance = Allowance::begin(Limits::none(), &clock);
+    let allowance = Allowance::begin(Limits::none(), false, &clock);
     Ok(answer(rt, alloc, &allowance, kept))
 }

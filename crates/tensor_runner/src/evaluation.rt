@@ -9,8 +9,11 @@ ghost use Rattle.expr_reader.specs.Result.{dims_of};
 ghost use Rattle.expr_reader.specs.Term.{has_inputs, nodes_of};
 ghost use Rattle.expr_reader.specs.Tree.{term_of};
 ghost use Rattle.expr_reader.specs.Value.{tensor_of};
+ghost use Rattle.tensor_runner.specs.Limited.{over_limits};
 
+use crate::allowance::Allowance;
 use crate::freeing::free_unread;
+use crate::limits::Limits;
 use crate::status::RunFault;
 use expr_reader::{Expr, Inputs, Request, Tensor};
 use std::alloc::{AllocError, Global};
@@ -84,16 +87,17 @@ pub fn eval<RT: Threads + Wait + Sync>(
     ensures tensor { IfOk result (λ t. t ≡ asked_tensor (asked_under request.now)) }
 {
     let clock = NoClock;
-    let never = Deadline::after(&clock, None);
-    match eval_until(rt, alloc, request, &never)? {
+    let unlimited = Allowance::begin(Limits::none(), false, &clock);
+    match eval_until(rt, alloc, request, &unlimited)? {
         Some(tensor) => Ok(tensor),
         None => unreachable!(),
     }
 }
 
-/// Evaluates a request as [`eval`] does, and returns `None` if the deadline passes before the last
-/// part of the work begins. The clock is read by the calling thread, between parts that take as long
-/// as a reduction, a contraction, or an operation at each place of a tensor.
+/// Evaluates a request as [`eval`] does, if the request is over no limit of what it is allowed. Returns
+/// `None` if the deadline passes before the last part of the work begins. The clock is read by the
+/// calling thread, between parts that take as long as a reduction, a contraction, or an operation at
+/// each place of a tensor.
 ///
 /// # Errors
 ///
@@ -102,17 +106,18 @@ pub fn eval_until<RT: Threads + Wait + Sync, K: Clock>(
     rt: &RT,
     alloc: Global,
     request: &Request,
-    deadline: &Deadline<'_, K>,
+    allowance: &Allowance<'_, K>,
 ) -> Result<Option<Tensor<'static>>, RunFault>
+    requires allowed { over_limits allowance.now.limits (asked_under request.now) ≡ None }
     ensures tensor { IfOk result (λ found. IfSome found (λ t.
         t ≡ asked_tensor (asked_under request.now))) }
-    ensures stopped { result ≡ Ok None → IsSome deadline.now.seconds }
+    ensures stopped { result ≡ Ok None → IsSome allowance.now.limits.seconds }
 {
     let evaluation = Evaluation {
         rt,
         alloc,
         request,
-        deadline,
+        deadline: &allowance.deadline,
     };
     if request.bindings.is_empty() {
         return evaluation.tensor(&request.expr, &request.inputs);

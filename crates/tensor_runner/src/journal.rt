@@ -27,18 +27,36 @@ pub struct Entry {
     pub answered: u128,
     /// The fault that the answer says, or `None` if the answer is a tensor.
     pub fault: Option<AnyFault>,
-    /// The steps that the request takes. `None` if there is no valid request, or if an allocation
-    /// failed while it was read.
+    /// The steps that the request takes. `None` if there is no valid request, if an allocation failed
+    /// while it was read, or if steps are neither limited nor noted.
     pub steps: Option<u128>,
 }
 
 /// A journal, in which a server notes its requests.
 pub trait Journal {
+    ghost use Rattle.std.specs.Prelude.{◌≡◌, ◌∷◌, [], List, Option, Bool};
+    ghost use Rattle.message_server.specs.Notes.{Adds};
+    ghost use Rattle.tensor_runner.specs.declared.journal.Entry.{Entry};
+
+    // The entries that were noted, if they are known.
+    ghost noted: { Self → Option (List Entry) };
+
+    ghost logs: { Self → Bool };
+
+    /// Returns whether the journal notes the steps of requests. If it doesn't, a server need not count
+    /// them.
+    fn notes_steps(&self) -> bool
+        ensures { result ≡ logs self.now };
+
     /// Notes that a request was wholly read.
-    fn begin(&mut self);
+    fn begin(&mut self)
+        ensures noted { noted self.new ≡ noted self.old }
+        ensures logs { logs self.new ≡ logs self.old };
 
     /// Notes that the answer of the request that began last was written.
-    fn end(&mut self, entry: &Entry);
+    fn end(&mut self, entry: &Entry)
+        ensures noted { Adds (entry.now ∷ []) (noted self.old) (noted self.new) }
+        ensures logs { logs self.new ≡ logs self.old };
 }
 
 /// A journal that notes nothing.
@@ -46,6 +64,16 @@ pub trait Journal {
 pub struct Silent;
 
 impl Journal for Silent {
+    ghost use Rattle.std.specs.Prelude.{None, false};
+
+    ghost noted = { λ s. None };
+
+    ghost logs = { λ s. false };
+
+    fn notes_steps(&self) -> bool {
+        false
+    }
+
     fn begin(&mut self) {}
 
     fn end(&mut self, _entry: &Entry) {}
@@ -53,6 +81,19 @@ impl Journal for Silent {
 
 /// A journal that may be absent, and notes nothing then.
 impl<J: Journal> Journal for Option<J> {
+    ghost use Rattle.tensor_runner.specs.Journal.{noted_by, logs_by};
+
+    ghost noted = { λ s. noted_by J.noted s };
+
+    ghost logs = { λ s. logs_by J.logs s };
+
+    fn notes_steps(&self) -> bool {
+        match self {
+            Some(journal) => journal.notes_steps(),
+            None => false,
+        }
+    }
+
     fn begin(&mut self) {
         if let Some(journal) = self {
             journal.begin();
@@ -125,6 +166,16 @@ impl<W: Write + Drop, K: Clock + Drop> LineJournal<W, K> {
 }
 
 impl<W: Write + Drop, K: Clock + Drop> Journal for LineJournal<W, K> {
+    ghost use Rattle.std.specs.Prelude.{None, true};
+
+    ghost noted = { λ s. None };
+
+    ghost logs = { λ s. true };
+
+    fn notes_steps(&self) -> bool {
+        true
+    }
+
     fn begin(&mut self) {
         self.requests = self.requests.saturating_add(1);
         self.begun = Instant::now(&self.clock).ok();

@@ -48,4 +48,4 @@ pub use stack::grow_stack;
 pub use status::{RunFault, Status};
 pub use tensor_reduce::{Deadline, NoClock};
 pub use text::unsigned_text;
-pub use work::{over_limits, steps_of};
+pub use work::steps_of;

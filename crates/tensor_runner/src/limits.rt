@@ -1,5 +1,5 @@
 //! The limits of a server, and the faults 19 to 21 for requests that are over them. A change here
-//! touches `over_limits`, the constant lines of `answer.rt`, the options, frame_server, and
+//! touches `Allowance::over_limits`, the constant lines of `answer.rt`, the options, frame_server, and
 //! docs/SERVE.md.
 
 ghost use Rattle.std.specs.Prelude.{◌≡◌};

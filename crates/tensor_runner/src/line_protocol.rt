@@ -4,6 +4,7 @@
 
 ghost use Rattle.std.specs.Thread.{IsSync};
 ghost use Rattle.std.specs.Cow.{cow_slice_items};
+ghost use Rattle.tensor_runner.specs.Journal.{IsEntry};
 ghost use Rattle.tensor_runner.specs.Limited.{lines_within};
 ghost use Rattle.tensor_runner.specs.private.Kept.{IsKept};
 ghost use Rattle.tensor_runner.specs.private.Laws.{laws};
@@ -38,15 +39,18 @@ pub(crate) struct NotedLine {
 
 impl<RT: Threads + Wait + Sync, J: Journal + Drop, K: Clock + Drop> Protocol<RT>
     for LineProtocol<J, K> {
-    type Rules = Limits;
+    // The limits, and whether the journal notes steps.
+    type Rules = (Limits, bool);
 
     type Message = KeptText;
 
     type Answer = NotedLine;
 
-    ghost rules = { λ s. s.service.limits };
+    type Note = Entry;
 
-    ghost framing = { lines_within };
+    ghost rules = { λ s. (s.service.limits, J.logs s.service.journal) };
+
+    ghost framing = { λ rules. lines_within rules.0 };
 
     ghost parting = { by_feeds };
 
@@ -54,11 +58,17 @@ impl<RT: Threads + Wait + Sync, J: Journal + Drop, K: Clock + Drop> Protocol<RT>
 
     ghost told = { λ answer. cow_slice_items answer.line.bytes };
 
+    ghost notes = { λ s. J.noted s.service.journal };
+
+    ghost note_on = { λ answer. answer.entry };
+
+    ghost is_note = { λ rules. IsEntry rules.0 rules.1 };
+
     ghost most_writes = { λ answer. 1 };
 
     ghost can_answer = { IsSync RT.row };
 
-    ghost laws = { laws };
+    ghost laws = { λ rules. laws rules.0 };
 
     fn take<C: Client>(
         &mut self,
@@ -73,7 +83,8 @@ impl<RT: Threads + Wait + Sync, J: Journal + Drop, K: Clock + Drop> Protocol<RT>
     fn answer(&mut self, rt: &RT, kept: KeptText) -> NotedLine {
         self.service.journal.begin();
         let length = kept.len();
-        let allowance = Allowance::begin(self.service.limits, &self.service.clock);
+        let logs = self.service.journal.notes_steps();
+        let allowance = Allowance::begin(self.service.limits, logs, &self.service.clock);
         let line = answer(rt, self.alloc, &allowance, kept);
         let entry = entry_of(length, &line);
         NotedLine { line, entry }

@@ -6,6 +6,7 @@ ghost use Rattle.tensor_runner.specs.History.{IsNew};
 ghost use Rattle.tensor_runner.specs.Limited.{AnswersLinesWithin, BreaksOffWithin};
 ghost use Rattle.tensor_runner.specs.Limited.{CutsLinesShortWithin, GoesByLinesWithin};
 ghost use Rattle.tensor_runner.specs.Lines.{lines_of};
+ghost use Rattle.tensor_runner.specs.NotedLines.{NotesLines, NotesWholeLines, NotesSomeLines};
 ghost use Rattle.message_server.specs.Streams.{HasFailed};
 
 use crate::journal::Journal;
@@ -26,6 +27,7 @@ use std::time::Clock;
 /// A line feed ends a line. The last line may lack it, and is answered unless it is empty. The rest
 /// of a line that is too long is skipped. If an allocation fails, only the line that needed it is
 /// answered by `NoMemory`. Between two lines a buffer of 65,536 bytes is kept, and nothing else.
+/// The journal is returned at the end.
 ///
 /// # Errors
 ///
@@ -36,7 +38,7 @@ pub fn answer_lines<RT, C: Client, J: Journal + Drop, K: Clock + Drop>(
     alloc: Global,
     service: Service<J, K>,
     client: &mut C,
-) -> Result<(), StreamFault>
+) -> (J, Result<(), StreamFault>)
 where
     RT: Threads + Wait + Sync,
     requires by_lines { GoesByLinesWithin service.limits C.owes_nothing }
@@ -44,26 +46,42 @@ where
 
     ensures answered { (text held : List ℕ) → C.remaining client.old ≡ Some text
         → C.contents client.old ≡ Some held
-        → OnOk result
+        → OnOk result.1
         (AnswersLinesWithin service.limits (lines_of text) held (C.contents client.new)) }
     // A line in which a read failed gets no answer.
     ensures broken_off { (text held : List ℕ) → C.remaining client.old ≡ Some text
-        → C.contents client.old ≡ Some held → result ≡ Err StreamFault.ReadFault
+        → C.contents client.old ≡ Some held → result.1 ≡ Err StreamFault.ReadFault
         → BreaksOffWithin service.limits text held (C.remaining client.new)
         (C.contents client.new) }
     ensures cut_short { (text held : List ℕ) → C.remaining client.old ≡ Some text
-        → C.contents client.old ≡ Some held → result ≡ Err StreamFault.WriteFault
+        → C.contents client.old ≡ Some held → result.1 ≡ Err StreamFault.WriteFault
         → CutsLinesShortWithin service.limits (lines_of text) held (C.contents client.new) }
 
-    ensures read_fault { result ≡ Err StreamFault.ReadFault
+    ensures noted { (text held : List ℕ) → C.remaining client.old ≡ Some text
+        → C.contents client.old ≡ Some held
+        → OnOk result.1 (NotesLines service.limits (J.logs service.journal) (lines_of text) held
+        (C.contents client.new) (J.noted service.journal) (J.noted result.0)) }
+    ensures noted_whole { (text held : List ℕ) → C.remaining client.old ≡ Some text
+        → C.contents client.old ≡ Some held → result.1 ≡ Err StreamFault.ReadFault
+        → NotesWholeLines service.limits (J.logs service.journal) text held
+        (C.remaining client.new) (C.contents client.new)
+        (J.noted service.journal) (J.noted result.0) }
+    // An answer that wasn't written whole is not noted.
+    ensures noted_some { (text held : List ℕ) → C.remaining client.old ≡ Some text
+        → C.contents client.old ≡ Some held → result.1 ≡ Err StreamFault.WriteFault
+        → NotesSomeLines service.limits (J.logs service.journal) (lines_of text) held
+        (C.contents client.new) (J.noted service.journal) (J.noted result.0) }
+
+    ensures read_fault { result.1 ≡ Err StreamFault.ReadFault
         → HasFailed (C.read_failures client.old) (C.read_failures client.new)
         × (C.write_failures client.new ≡ C.write_failures client.old) }
-    ensures write_fault { result ≡ Err StreamFault.WriteFault
+    ensures write_fault { result.1 ≡ Err StreamFault.WriteFault
         → (C.read_failures client.new ≡ C.read_failures client.old)
         × HasFailed (C.write_failures client.old) (C.write_failures client.new) }
-    ensures no_failure { OnOk result ((C.read_failures client.new ≡ C.read_failures client.old)
+    ensures no_failure { OnOk result.1 ((C.read_failures client.new ≡ C.read_failures client.old)
         × (C.write_failures client.new ≡ C.write_failures client.old)) }
 {
     let mut protocol = LineProtocol { alloc, service };
-    answer_messages(rt, client, &mut protocol)
+    let ended = answer_messages(rt, client, &mut protocol);
+    (protocol.service.journal, ended)
 }

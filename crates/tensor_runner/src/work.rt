@@ -14,13 +14,11 @@ ghost use Rattle.tensor_reduce.specs.Contraction.{firsts};
 ghost use Rattle.tensor_reduce.specs.Reduction.{are_axes};
 ghost use Rattle.tensor_ops.specs.Facts.{combines, combines_two};
 ghost use Rattle.tensor_reduce.specs.Merged.{dims_at};
-ghost use Rattle.tensor_runner.specs.Limited.{over_limits};
 ghost use Rattle.tensor_runner.specs.private.Known.{tensors_known};
 ghost use Rattle.tensor_runner.specs.Work.{operations, operations_over, unary_steps, binary_steps};
 ghost use Rattle.tensor_runner.specs.Work.{combined, steps_over, steps_of};
 
 use crate::known::Known;
-use crate::limits::{LimitFault, Limits, is_over};
 use expr_reader::{Dims, Expr, Request};
 use tensor_ops::{Binary, ExprFault, Node, Unary};
 use tensor_terms::{dims_at, paired_axes};
@@ -35,21 +33,6 @@ struct Count {
     operations: u64,
     /// The steps of all operations in the expression that combine values.
     combined: u128,
-}
-
-/// Returns the limit that a request of `steps` steps is over, if any. The limit of workers comes
-/// first.
-pub fn over_limits(limits: Limits, request: &Request<'_>, steps: u128) -> Option<LimitFault>
-    requires { steps ≡ steps_of (asked_under request.now) }
-    ensures { result ≡ over_limits limits (asked_under request.now) }
-{
-    if is_over(limits.workers, u128::from(request.workers)) {
-        return Some(LimitFault::TooManyWorkers);
-    }
-    if is_over(limits.steps, steps) {
-        return Some(LimitFault::TooManySteps);
-    }
-    None
 }
 
 /// Returns how many steps a request takes, counted in time linear in its nodes and without an

@@ -12,7 +12,7 @@ use std::sync::Wait;
 use std::test::Fail;
 use std::thread::Threads;
 use std::time::{Clock, Duration};
-use tensor_runner::{Deadline, NoClock, eval_until};
+use tensor_runner::{Allowance, Deadline, Limits, NoClock, eval_until};
 
 /// A clock that shows a second more at each reading.
 #[derive(Drop)]
@@ -62,8 +62,14 @@ fn ends_at<RT: Threads + Wait + Abort + Sync>(
     let clock = Ticking {
         readings: Cell::new(0),
     };
-    let deadline = Deadline::after(&clock, seconds);
-    let found = eval_until(rt, alloc, &request, &deadline)?;
+    let limits = Limits {
+        workers: None,
+        steps: None,
+        bytes: None,
+        seconds,
+    };
+    let allowance = Allowance::begin(limits, false, &clock);
+    let found = eval_until(rt, alloc, &request, &allowance)?;
     let values: &[i64] = match &found {
         Some(tensor) => tensor.values(),
         None => &[],

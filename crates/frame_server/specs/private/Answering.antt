@@ -1,6 +1,6 @@
 -- The frame of an answer before it is written, for the private clauses of the server.
 use Rattle.std.specs.Prelude.{◌≡◌, ◌≢◌, ◌⊎◌, ℕ, ℤ, List, [], ◌++◌, length, Option, Some, None}
-use Rattle.std.specs.Prelude.{◌+◌, ◌/◌, MatchBool, IsSome}
+use Rattle.std.specs.Prelude.{◌+◌, ◌/◌, Bool, MatchBool, IsSome}
 use Rattle.std.specs.Cow.{cow_slice_items}
 use Rattle.std.specs.List.{flat_map}
 use Rattle.expr_reader.specs.Contents.{Contents}
@@ -9,7 +9,6 @@ use Rattle.expr_reader.specs.declared.fault.Fault.{Fault}
 use Rattle.expr_reader.specs.declared.fault.Fault.TheVariants.{TooLong, NoMemory}
 use Rattle.tensor_runner.specs.Answer.{tensor, fault}
 use Rattle.tensor_runner.specs.Journal.{HasSteps}
-use Rattle.tensor_runner.specs.declared.journal.AnyFault.{AnyFault}
 use Rattle.tensor_runner.specs.declared.journal.AnyFault.TheVariants.{Request, Limit}
 use Rattle.tensor_runner.specs.declared.journal.Entry.{Entry}
 use Rattle.tensor_runner.specs.declared.limits.LimitFault.{LimitFault}
@@ -19,6 +18,7 @@ use Rattle.frame_server.specs.Answer.{answer_bytes, IsAnswerTo, IsShort}
 use Rattle.frame_server.specs.Frame.{number_bytes, value_bytes, frame_in, header_len, value_count}
 use Rattle.frame_server.specs.Limited.{limit_frame, request_in, is_longer, frame_read}
 use Rattle.frame_server.specs.Limited.{IsStoppedFrame}
+use Rattle.frame_server.specs.NotedFrames.{Says}
 use Rattle.frame_server.specs.declared.frame.AnswerFrame.{AnswerFrame}
 
 -- the bytes of a frame before its values: the two sizes and the header
@@ -50,16 +50,6 @@ entry_of bytes frame =
       steps = frame.steps;
     }
 
--- the bytes of the frame of a fault
-abbrev pub any_frame : AnyFault → List ℕ
-any_frame (Request f) = answer_bytes (fault f)
-any_frame (Limit f) = limit_frame f
-
--- the frame says this fault, or a tensor if there is no fault
-abbrev pub Says : List ℕ → Option AnyFault → Type 0
-Says bytes (Some f) = bytes ≡ any_frame f
-Says bytes None = (t : Contents) × (bytes ≡ answer_bytes (tensor t))
-
 -- the frame that answers the frame of these bytes, which may be so long, or the frame of `NoMemory`,
 -- or the frame of one that takes too many seconds
 abbrev pub IsFrameRead : Limits → List ℕ → List ℕ → Type 0
@@ -69,11 +59,12 @@ IsFrameRead limits bytes answer =
     ⊎ IsStoppedFrame limits bytes answer)
 
 -- the frame answers the frame of these bytes, which may be so long, and its fault and steps are
--- those of the answer
-pub record IsFrameUnder (limits : Limits) (bytes : List ℕ) (frame : AnswerFrame) : Type 0 where
+-- those of the answer. `logs` says whether a journal notes steps.
+pub record IsFrameUnder (limits : Limits) (logs : Bool) (bytes : List ℕ) (frame : AnswerFrame)
+    : Type 0 where
   pub within : IsFrameRead limits bytes (bytes_in frame)
   pub says : Says (bytes_in frame) frame.fault
-  pub has : HasSteps (request_in (frame_in bytes)) frame.fault frame.steps
+  pub has : HasSteps limits logs (request_in (frame_in bytes)) frame.fault frame.steps
 
 -- the fault answers the frame of these bytes
 abbrev pub IsFaultOf : List ℕ → Fault → Type 0
@@ -111,6 +102,6 @@ pub record SaysTooLong (frame : AnswerFrame) : Type 0 where
   pub none : frame.steps ≡ None
 
 -- the frame answers the frame of these bytes under limits
-abbrev pub IsFrameFrom : Limits → List ℕ → AnswerFrame → Type 0
-IsFrameFrom limits bytes frame =
-    MatchBool (is_longer limits bytes) (SaysTooLong frame) (IsFrameUnder limits bytes frame)
+abbrev pub IsFrameFrom : Limits → Bool → List ℕ → AnswerFrame → Type 0
+IsFrameFrom limits logs bytes frame =
+    MatchBool (is_longer limits bytes) (SaysTooLong frame) (IsFrameUnder limits logs bytes frame)

@@ -8,8 +8,8 @@ returns-in-Ok g c = λ bytes whole kept. c.in-Ok.ensures bytes whole kept
 
 pub returns-in-Err : goal.returns-in-Err
 returns-in-Err g c = λ bytes whole kept. elim c.refusal.ensures.fault [
-  | inl own ↦ IsFrameUnder-fault c.args.allowance.now.limits bytes c.in-Err.fault c.refusal.result (c.in-Err.ensures bytes whole kept) own c.refusal.ensures.steps
+  | inl own ↦ IsFrameUnder-fault c.args.allowance.now.limits c.args.allowance.now.logs bytes c.in-Err.fault c.refusal.result (c.in-Err.ensures bytes whole kept) own c.refusal.ensures.steps
   | inr memory ↦
-      IsFrameUnder-fault c.args.allowance.now.limits bytes NoMemory c.refusal.result
+      IsFrameUnder-fault c.args.allowance.now.limits c.args.allowance.now.logs bytes NoMemory c.refusal.result
       (inr (refl, short-fault bytes c.in-Err.fault whole (c.in-Err.ensures bytes whole kept) memory.1)) memory.0 c.refusal.ensures.steps
 ]

@@ -5,6 +5,6 @@ pub returns : goal.returns
 returns g c =
     let e = c.answer_frames.ensures in
     record {
-      ended = ends c.answer_frames.result c.ending_of.result _ _ _ _ _ _ _ _ _ _ c.ending_of.ensures e.answered e.broken_off e.cut_short e.read_fault
+      ended = ends c.answer_frames.result.1 c.ending_of.result _ _ _ _ _ _ _ _ _ _ c.ending_of.ensures e.answered e.broken_off e.cut_short e.read_fault
           e.write_fault e.no_failure;
     }

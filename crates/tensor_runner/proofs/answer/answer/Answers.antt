@@ -9,11 +9,11 @@ returns-then-is_too_long g c = λ text is.
     let counted = c.len.ensures ∙ kept-len text c.args.kept is in
     let long : is_longer c.args.allowance.now.limits text ≡ true =
     ap (λ (n : ℕ). is_over c.args.allowance.now.limits.bytes n) (sym counted) ∙ sym c.is_too_long.ensures ∙ c.if-is_too_long.true in
-    IsLineFrom-long c.args.allowance.now.limits text c.too_long.result long c.too_long.ensures.bytes c.too_long.ensures.fault c.too_long.ensures.steps
+    IsLineFrom-long c.args.allowance.now.limits c.args.allowance.now.logs text c.too_long.result long c.too_long.ensures.bytes c.too_long.ensures.fault c.too_long.ensures.steps
 
 pub returns : goal.returns
 returns g c = λ text is.
     let counted = c.len.ensures ∙ kept-len text c.args.kept is in
     let short : is_longer c.args.allowance.now.limits text ≡ false =
     ap (λ (n : ℕ). is_over c.args.allowance.now.limits.bytes n) (sym counted) ∙ sym c.is_too_long.ensures ∙ c.if-is_too_long.false in
-    IsLineFrom-read c.args.allowance.now.limits text c.answer_kept.result short (c.answer_kept.ensures text is)
+    IsLineFrom-read c.args.allowance.now.limits c.args.allowance.now.logs text c.answer_kept.result short (c.answer_kept.ensures text is)

@@ -6,9 +6,9 @@ use Rattle.tensor_runner.proofs.answer.answer_text.Goals as goal
 
 pub returns-in-Err : goal.returns-in-Err
 returns-in-Err g c = elim c.refusal.ensures.fault [
-  | inl own ↦ IsLineUnder-fault c.args.allowance.now.limits c.args.text.items c.in-Err.fault c.refusal.result c.in-Err.ensures own c.refusal.ensures.status
+  | inl own ↦ IsLineUnder-fault c.args.allowance.now.limits c.args.allowance.now.logs c.args.text.items c.in-Err.fault c.refusal.result c.in-Err.ensures own c.refusal.ensures.status
       c.refusal.ensures.steps
   | inr memory ↦
-      IsLineUnder-fault c.args.allowance.now.limits c.args.text.items NoMemory c.refusal.result
+      IsLineUnder-fault c.args.allowance.now.limits c.args.allowance.now.logs c.args.text.items NoMemory c.refusal.result
       (inr (refl, short-fault c.args.text.items c.in-Err.fault c.in-Err.ensures memory.1)) memory.0 c.refusal.ensures.status c.refusal.ensures.steps
 ]
