@@ -1,7 +1,7 @@
 //! Reads the tensors of a request, in the three forms that they have in a text, in a frame, and
 //! beside arrays. They are defined in `specs/Tensors`, `Frame` and `Arrays`.
 
-ghost use Rattle.std.specs.Prelude.{◌≡◌, ◌≤◌, ℤ, List, length, IfOk, IfSome};
+ghost use Rattle.std.specs.Prelude.{◌≡◌, ◌≤◌, ℤ, pos, List, length, replicate, IfOk, IfSome};
 ghost use Rattle.serde_json.specs.View.{view};
 ghost use Rattle.tensor_ops.specs.Index.{size_of};
 ghost use Rattle.tensor_ops.specs.Legal.{IsPossible, IsWithin};
@@ -14,6 +14,7 @@ ghost use Rattle.expr_reader.specs.Tensors.{dims_in, values_in, tensor_in};
 use crate::fault::Fault;
 use crate::fields::has_members;
 use crate::items::read_list;
+use crate::known::KnownTensor;
 use arrayvec::ArrayVec;
 use serde_json::Value;
 use std::alloc::Global;
@@ -24,7 +25,7 @@ pub(crate) fn read_tensor(
     alloc: Global,
     value: &Value,
     bounds: Bounds,
-) -> Result<Tensor<'static>, Fault>
+) -> Result<KnownTensor<'static>, Fault>
     requires { IsPossible bounds }
     ensures tensor { IsReadOr Fault.BadTensor (λ t. t) (tensor_in bounds (view value.now)) result }
     ensures bounds { IfOk result (λ t. IsWithin bounds t.dims) }
@@ -36,7 +37,7 @@ pub(crate) fn read_tensor(
     let values = value.get("data").ok_or(Fault::BadTensor)?;
     let dims = read_dims(dims, bounds).ok_or(Fault::BadTensor)?;
     let values = read_values(alloc, values, dims.size())?;
-    Ok(Tensor::new(dims, values))
+    Ok(KnownTensor::read(Tensor::new(dims, values)))
 }
 
 /// Reads a tensor of a frame: an object of exactly `dims`. It borrows the first of `values`, one
@@ -45,7 +46,7 @@ pub(crate) fn read_framed_tensor<'a>(
     value: &Value,
     bounds: Bounds,
     values: &'a [i64],
-) -> Result<Tensor<'a>, Fault>
+) -> Result<KnownTensor<'a>, Fault>
     requires { IsPossible bounds }
     ensures tensor { IsReadOr Fault.BadTensor (λ t. t)
         (framed_tensor bounds values.now (view value.now)) result }
@@ -54,11 +55,28 @@ pub(crate) fn read_framed_tensor<'a>(
 {
     let dims = read_framed_dims(value, bounds, values.len())?;
     let size = dims.size() as usize;
-    Ok(Tensor::lent(dims, &values[..size]))
+    Ok(KnownTensor::read(Tensor::lent(dims, &values[..size])))
+}
+
+/// Reads a tensor of a frame whose values are not read. It takes the first of `count` values, one
+/// for each place.
+pub(crate) fn read_unread_tensor<'a>(
+    value: &Value,
+    bounds: Bounds,
+    count: usize,
+) -> Result<KnownTensor<'a>, Fault>
+    requires { IsPossible bounds }
+    ensures tensor { IsReadOr Fault.BadTensor (λ t. t)
+        (framed_tensor bounds (replicate count (pos 0)) (view value.now)) result }
+    ensures bounds { IfOk result (λ t. IsWithin bounds t.dims) }
+    ensures few { IfOk result (λ t. length t.values ≤ length (replicate count (pos 0))) }
+{
+    let dims = read_framed_dims(value, bounds, count)?;
+    Ok(KnownTensor::unread(dims))
 }
 
 /// Reads the dims of a tensor of a frame, which may have at most `count` places.
-pub(crate) fn read_framed_dims(value: &Value, bounds: Bounds, count: usize) -> Result<Dims, Fault>
+fn read_framed_dims(value: &Value, bounds: Bounds, count: usize) -> Result<Dims, Fault>
     requires { IsPossible bounds }
     ensures dims { (values : List ℤ) → length values ≡ count
         → IsReadOr Fault.BadTensor (taken values) (framed_tensor bounds values (view value.now)) result }
@@ -82,14 +100,14 @@ pub(crate) fn read_array_tensor<'a>(
     value: &Value,
     bounds: Bounds,
     values: &'a [i64],
-) -> Result<Tensor<'a>, Fault>
+) -> Result<KnownTensor<'a>, Fault>
     requires { IsPossible bounds }
     ensures tensor { IsReadOr Fault.BadTensor (λ t. t)
         (array_tensor bounds values.now (view value.now)) result }
     ensures bounds { IfOk result (λ t. IsWithin bounds t.dims) }
 {
     let tensor = read_framed_tensor(value, bounds, values)?;
-    if tensor.values().len() == values.len() {
+    if tensor.len() == values.len() {
         Ok(tensor)
     } else {
         Err(Fault::BadTensor)

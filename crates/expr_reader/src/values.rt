@@ -10,7 +10,7 @@ ghost use Rattle.expr_reader.specs.private.Version.{versions_under};
 use crate::array::Array;
 use crate::fault::Fault;
 use crate::known::KnownTensor;
-use crate::tensors::{read_array_tensor, read_framed_dims, read_framed_tensor, read_tensor};
+use crate::tensors::{read_array_tensor, read_framed_tensor, read_tensor, read_unread_tensor};
 use crate::version::Versions;
 use serde_json::Value;
 use std::alloc::Global;
@@ -57,19 +57,15 @@ impl<'a> Values<'a> {
         ensures bounds { IfOk result (λ t. IsWithin bounds t.dims) }
         ensures first { IfOk result (λ t. HasFirst (source_of self.entry) t) }
     {
-        let tensor = match self {
-            Values::InText => read_tensor(alloc, value, bounds)?,
-            Values::Behind(values) => read_framed_tensor(value, bounds, values)?,
+        match self {
+            Values::InText => read_tensor(alloc, value, bounds),
+            Values::Behind(values) => read_framed_tensor(value, bounds, values),
             Values::Apart(arrays) => match arrays.first() {
-                Some(first) => read_array_tensor(value, bounds, first.values)?,
-                None => return Err(Fault::BadTensor),
+                Some(first) => read_array_tensor(value, bounds, first.values),
+                None => Err(Fault::BadTensor),
             },
-            Values::Unread(count) => {
-                let dims = read_framed_dims(value, bounds, count)?;
-                return Ok(KnownTensor::unread(dims));
-            }
-        };
-        Ok(KnownTensor::read(tensor))
+            Values::Unread(count) => read_unread_tensor(value, bounds, count),
+        }
     }
 
     /// Returns the values that are left after a tensor that took the first of them.
