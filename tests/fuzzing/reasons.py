@@ -233,7 +233,14 @@ def contract(version, left, right, pairs):
             of_second = f"axis {j} of the second is {right[j]} long"
             return f"axis {i} of the first operand is {left[i]} long; {of_second}"
     kept = [left[it] for it in others(firsts, left)] + [right[it] for it in others(seconds, right)]
-    return wrong or illegal(version, kept)
+    return wrong or illegal(version, kept) or many(version, kept, [left[it] for it in firsts])
+
+
+def many(version, dims, summed):
+    """Says that sums of products are too many. It is the last check."""
+    places, each = math.prod(dims), math.prod(summed)
+    allowed = f"at most {version.most_products} are allowed"
+    return f"{places} places of {each} products each are {places * each} products; {allowed}"
 
 
 def convolve(version, dims, kernel, axes):
@@ -247,10 +254,7 @@ def convolve(version, dims, kernel, axes):
             has = f"the kernel has the length {it}; the operand has the length {dims[axis]}"
             return f"along axis {axis} {has}"
     along = dict(zip(axes, kernel))
-    places = math.prod(it - along.get(axis, 1) + 1 for axis, it in enumerate(dims))
-    each = math.prod(kernel)
-    many = f"{places * each} products; at most {version.most_products} are allowed"
-    return f"{places} places of {each} products each are {many}"
+    return many(version, [it - along.get(axis, 1) + 1 for axis, it in enumerate(dims)], kernel)
 
 
 CHECKS = {

@@ -1,10 +1,9 @@
 //! Reasons why two operands do not fit a concatenation, a contraction or a convolution. The checks
 //! are made in the order of `tensor_terms`, so the reason is the one of the fault that was found.
 
-use crate::sizes::{no_axis, places, sizes_in, why_axes, why_illegal};
+use crate::sizes::{most_products, no_axis, places, sizes_in, why_axes, why_illegal};
 use serde_json::Value;
 use std::alloc::{AllocError, Global};
-use tensor_ops::TEXT_PRODUCTS;
 
 /// Says why two operands can't be concatenated along an axis.
 pub(crate) fn why_concat(
@@ -83,9 +82,8 @@ pub(crate) fn why_contract(
         return Ok(reason);
     }
     for (left, right) in firsts.iter().zip(seconds.iter()) {
-        let (size, other) = (first.get(*left as usize), second.get(*right as usize));
+        let (size, other) = (size_at(*left, first), size_at(*right, second));
         if size != other {
-            let (size, other) = (size.copied().unwrap_or(0), other.copied().unwrap_or(0));
             let reason = format!(in alloc;
                 "axis {left} of the first operand is {size} long; axis {right} of the second is {other} long"
             )?;
@@ -95,7 +93,26 @@ pub(crate) fn why_contract(
     let mut outer = Vec::new(alloc);
     push_others(firsts, first, &mut outer)?;
     push_others(seconds, second, &mut outer)?;
-    why_illegal(alloc, version, outer.as_slice())
+    let reason = why_illegal(alloc, version, outer.as_slice())?;
+    if reason.is_some() {
+        return Ok(reason);
+    }
+    let summed = sizes_at(alloc, firsts, first)?;
+    why_many(alloc, version, outer.as_slice(), summed.as_slice())
+}
+
+/// Returns the size of an axis, or 0 if the dims do not have it.
+fn size_at(axis: u64, dims: &[u64]) -> u64 {
+    dims.get(axis as usize).copied().unwrap_or(0)
+}
+
+/// Returns the size of each of these axes.
+fn sizes_at(alloc: Global, axes: &[u64], dims: &[u64]) -> Result<Vec<u64>, AllocError> {
+    let mut sizes = Vec::new(alloc);
+    for axis in axes {
+        sizes.push(size_at(*axis, dims))?;
+    }
+    Ok(sizes)
 }
 
 /// Returns the first number of each pair, and the second number of each.
@@ -131,6 +148,7 @@ fn push_others(axes: &[u64], dims: &[u64], others: &mut Vec<u64>) -> Result<(), 
 /// Says why a kernel does not fit these axes of an operand.
 pub(crate) fn why_convolve(
     alloc: Global,
+    version: u64,
     argument: &Value,
     dims: &[u64],
     kernel: &[u64],
@@ -152,7 +170,7 @@ pub(crate) fn why_convolve(
     }
     let mut slid = Vec::from_slice(alloc, dims)?;
     for (axis, size) in axes.iter().zip(kernel.iter()) {
-        let along = dims.get(*axis as usize).copied().unwrap_or(0);
+        let along = size_at(*axis, dims);
         if *size == 0 || *size > along {
             let reason = format!(in alloc;
                 "along axis {axis} the kernel has the length {size}; the operand has the length {along}"
@@ -163,15 +181,24 @@ pub(crate) fn why_convolve(
             *place = (along - *size).saturating_add(1);
         }
     }
-    why_many(alloc, slid.as_slice(), kernel)
+    why_many(alloc, version, slid.as_slice(), kernel)
 }
 
-/// Says that a convolution has too many products. It is the last check, so no other reason is left.
-fn why_many(alloc: Global, slid: &[u64], kernel: &[u64]) -> Result<Option<String>, AllocError> {
-    let (result, each) = (places(slid), places(kernel));
+/// Says that a contraction or a convolution has too many products, if it has. `result` are the dims
+/// of its result, and each value there is a sum over the index lists of `summed`.
+fn why_many(
+    alloc: Global,
+    version: u64,
+    result: &[u64],
+    summed: &[u64],
+) -> Result<Option<String>, AllocError> {
+    let (result, each, most) = (places(result), places(summed), most_products(version));
+    let products = result.saturating_mul(each);
+    if products <= most {
+        return Ok(None);
+    }
     let reason = format!(in alloc;
-        "{result} places of {each} products each are {} products; at most {TEXT_PRODUCTS} are allowed",
-        result.saturating_mul(each)
+        "{result} places of {each} products each are {products} products; at most {most} are allowed"
     )?;
     Ok(Some(reason))
 }

@@ -139,6 +139,6 @@ fn why_two(
         "concat" => why_concat(alloc, call.version, argument, first, second),
         "contract" => why_contract(alloc, call.version, argument, first, second),
         "take" => why_take(alloc, call.version, argument, first, second),
-        _ => why_convolve(alloc, argument, first, second),
+        _ => why_convolve(alloc, call.version, argument, first, second),
     }
 }

@@ -1,9 +1,13 @@
 //! Checks of sizes that several operations share, with their reasons: legal dims, and lists of
-//! axes. The highest ranks are written here again: a new one of `expr_reader` changes them too.
+//! axes. The highest ranks and the products of version 3 are written here again: a new one of
+//! `expr_reader` or `tensor_terms` changes them too.
 
 use serde_json::Value;
 use std::alloc::{AllocError, Global};
-use tensor_ops::{MAX_ELEMENTS, TEXT_ELEMENTS};
+use tensor_ops::{MAX_ELEMENTS, TEXT_ELEMENTS, TEXT_PRODUCTS};
+
+/// The most products in version 3.
+const MAX_PRODUCTS: u64 = 1_099_511_627_776;
 
 /// Returns the highest rank that a version allows.
 fn highest_rank(version: u64) -> usize {
@@ -16,6 +20,15 @@ fn most_elements(version: u64) -> u64 {
         MAX_ELEMENTS
     } else {
         TEXT_ELEMENTS
+    }
+}
+
+/// Returns the most products that a contraction or a convolution may sum in a version.
+pub(crate) fn most_products(version: u64) -> u64 {
+    if version == 3 {
+        MAX_PRODUCTS
+    } else {
+        TEXT_PRODUCTS
     }
 }
 
