@@ -160,8 +160,9 @@ int64_t tensor_prepare(const uint8_t *header, size_t header_length, uint64_t cou
    text. The arrays come in the order of the names. `plan_length` is what tensor_prepare returned. If
    there are more or fewer arrays than tensors, or an array has another length than its tensor, it
    returns -7. If an allocation fails, it returns -15. A plan has no other fault, because its header had
-   none. If the numbers are not a plan, it returns TENSOR_NO_PLAN, -7 or -15. In all these cases it writes
-   nothing, with one exception: after -15 for a plan `out` may hold anything. Whatever the numbers are,
+   none. If the numbers are not a plan, it returns TENSOR_NO_PLAN, -7 or -15, and TENSOR_NO_PLAN if the
+   first four numbers are not those of a plan. In all these cases it writes nothing, with one exception:
+   after -15 for a plan `out` may hold anything. Whatever the numbers are,
    it reads and writes nothing but the lists of this call. If they are the plan of another header, it
    evaluates that header. */
 int64_t tensor_run(const uint64_t *plan, size_t plan_length,

@@ -11,7 +11,7 @@ use Rattle.tensor_shape.specs.declared.shape_fault.ShapeFault.{ShapeFault}
 use Rattle.tensor_shape.specs.declared.shape_fault.ShapeFault.TheVariants.{RankTooHigh, TooManyElements}
 use Rattle.tensor_terms.specs.Contents.{Contents, AreWithin, input_of}
 use Rattle.prepared_expressions.specs.private.Dealing.{Dealing, One, one_from, after, next_from, all_from}
-use Rattle.prepared_expressions.specs.Prepared.{recorded_dims, all_legal, dims_of_all, values_of_all, before, dealt, Prepared, IsPrepared, IsRecordable, form_of, record_of, terms_of}
+use Rattle.prepared_expressions.specs.Prepared.{recorded_dims, all_legal, dims_of_all, values_of_all, before, dealt, Begins, Prepared, IsPrepared, IsRecordable, form_of, record_of, terms_of}
 use Rattle.tensor_terms.specs.Term.{Term}
 use Rattle.prepared_expressions.specs.Recorded.{recorded_all}
 use Rattle.expr_reader.specs.Arrays.{arrays_under}
@@ -255,6 +255,18 @@ begun q ok arrays numbers rest b n m can here is =
       dealing = λ same. ap (λ s. all_from s arrays rest) bounds ∙ ap (all_from q.bounds arrays) behind
           ∙ all_from-recorded q.bounds arrays q.dims (recorded_all (terms_of q) []) (sym count ∙ same) ok.legal;
     }
+
+-- a record begins so
+pub Begins-record : (q : Prepared) → IsPrepared q → (numbers : List ℕ) → numbers ≡ record_of q → Begins numbers
+Begins-record q ok numbers is = record {
+  bounds = q.bounds;
+  inputs = length q.dims;
+  bindings = length q.bindings;
+  rest = recorded_dims q.dims (recorded_all (terms_of q) []);
+  recordable = ok.bounds;
+  few = ok.few;
+  here = is;
+}
 
 -- the numbers of a record, from what was read of them
 pub filled-written : (numbers rest behind : List ℕ) (b bounds : Bounds) (n m : ℕ) (ts us : List Contents) (bs all : List Term)

@@ -57,6 +57,16 @@ pub record IsRecordable (bounds : Bounds) : Type 0 where
   pub rank : (bounds.rank ≡ 6) ⊎ (bounds.rank ≡ 8)
   pub elements : (bounds.elements ≡ text_elements) ⊎ (bounds.elements ≡ most_elements)
 
+-- numbers that begin as a record does: with a form, a rank, and how many inputs and bindings follow
+pub record Begins (numbers : List ℕ) : Type 0 where
+  pub bounds : Bounds
+  pub inputs : ℕ
+  pub bindings : ℕ
+  pub rest : List ℕ
+  pub recordable : IsRecordable bounds
+  pub few : inputs + bindings < 2 ^ 32
+  pub here : numbers ≡ form_of bounds.elements ∷ bounds.rank ∷ inputs ∷ bindings ∷ rest
+
 -- a term that a record can have
 pub record IsWritable (t : Term) : Type 0 where
   pub ranges : HasRanges t

@@ -3,13 +3,13 @@
 //! refused.
 
 ghost use Rattle.std.specs.Prelude.{◌≡◌, ◌≢◌, ◌⊎◌, ◌<◌, ◌+◌, ◌^◌, ◌++◌, ◌∷◌, ℕ, List};
-ghost use Rattle.std.specs.Prelude.{IsTrue, IfOk, IfErr, OnOk, IfSome, IfNone};
+ghost use Rattle.std.specs.Prelude.{IsTrue, IfOk, IfErr, IsErrOf, OnOk, IfSome, IfNone};
 ghost use Rattle.expr_reader.specs.Arrays.{arrays_under};
 ghost use Rattle.tensor_shape.specs.Legal.{text_elements, most_elements, IsPossible};
 ghost use Rattle.prepared_expressions.specs.Filled.{IsFilled, IsFilledOf};
 ghost use Rattle.prepared_expressions.specs.Prepared.{prepared_outline, record_of, recorded_dims};
 ghost use Rattle.prepared_expressions.specs.Prepared.{dims_of_all, all_legal, form_of};
-ghost use Rattle.prepared_expressions.specs.Prepared.{Prepared, IsPrepared, IsRecordable};
+ghost use Rattle.prepared_expressions.specs.Prepared.{Begins, IsPrepared, IsRecordable};
 
 use crate::exprs::read_exprs;
 use crate::filled::Filled;
@@ -90,6 +90,7 @@ pub fn read_over<'a>(
 ) -> Result<Filled<'a>, Refusal>
     ensures found { IfOk result (λ filled. IsFilled numbers.now (arrays_under arrays.now) filled) }
     ensures whole { IsFilledOf numbers.now (arrays_under arrays.now) result }
+    ensures no_start { (Begins numbers.now → ⊥) → IsErrOf result Refusal.NoRecord }
 {
     let Some(start) = read_start(numbers) else {
         return Err(Refusal::NoRecord);
@@ -124,7 +125,7 @@ fn read_start(numbers: &[u64]) -> Option<Start<'_>>
         ≡ form_of s.bounds.elements ∷ s.bounds.rank ∷ s.inputs ∷ s.bindings ∷ s.rest.now) }
     ensures bounds { IfSome result (λ s. IsRecordable s.bounds) }
     ensures few { IfSome result (λ s. s.inputs + s.bindings < 2 ^ 32) }
-    ensures none { IfNone result ((p : Prepared) → IsPrepared p → numbers.now ≢ record_of p) }
+    ensures none { IfNone result (Begins numbers.now → ⊥) }
 {
     let [form, rank, inputs, bindings, rest @ ..] = numbers else {
         return None;

@@ -80,5 +80,9 @@ refusal_result refusal.OtherArrays = fault_result BadTensor
 refusal_result refusal.NoDims = no_plan
 
 -- the call reports a refusal and writes nothing
+abbrev pub refused : Refusal → List ℤ → CalledForPart
+refused f out = record { result = refusal_result f; out = out }
+
+-- the call reports some refusal and writes nothing
 abbrev pub IsRefused : List ℤ → CalledForPart → Type 0
-IsRefused out call = (f : Refusal) × (call ≡ record { result = refusal_result f; out = out })
+IsRefused out call = (f : Refusal) × (call ≡ refused f out)

@@ -20,7 +20,8 @@ ghost use Rattle.expr_reader.specs.Faults.{fault_number, fault_name};
 ghost use Rattle.expr_reader.specs.Frame.{frame_at};
 ghost use Rattle.expr_reader.specs.Request.{Asked};
 ghost use Rattle.expr_reader.specs.declared.fault.Fault.{Fault};
-ghost use Rattle.prepared_expressions.specs.Prepared.{Prepared, record_of};
+ghost use Rattle.prepared_expressions.specs.Prepared.{Begins, Prepared, record_of};
+ghost use Rattle.prepared_expressions.specs.declared.refusal.Refusal.{Refusal};
 ghost use Rattle.tensor_c.specs.Answer.{answer_of_arrays, answer_of_frame};
 ghost use Rattle.tensor_c.specs.Answer.{answer_dims, dims_of_arrays};
 ghost use Rattle.tensor_c.specs.Call.{IsCall, IsDimsCall, IsTooLong};
@@ -28,7 +29,7 @@ ghost use Rattle.tensor_c.specs.Call.{called, called_for_dims, called_for_name};
 ghost use Rattle.tensor_c.specs.Explaining.{IsExplainCall};
 ghost use Rattle.tensor_c.specs.Part.{IsPartCall, called_for_part};
 ghost use Rattle.tensor_c.specs.Plan.{asked_over, plan_over, prepared_of, called_for_plan};
-ghost use Rattle.tensor_c.specs.Plan.{IsPlan, IsPlanCall, answer_of_plan, IsRefused};
+ghost use Rattle.tensor_c.specs.Plan.{IsPlan, IsPlanCall, answer_of_plan, refused, IsRefused};
 ghost use Rattle.tensor_c.specs.Shared.{shared_over, called_for_count, IsCountCall};
 ghost use Rattle.tensor_c.specs.Version.{version};
 
@@ -165,7 +166,8 @@ pub extern "C" fn tensor_prepare(alloc: Global, header: &[u8], count: u64, plan:
 /// No text is parsed.
 ///
 /// If the lengths of the arrays differ from the header's dims, -7 is returned. If the numbers are
-/// not a plan at all, -101, -7 or -15 is returned. Nothing is written then.
+/// not a plan at all, -101, -7 or -15 is returned; -101 if they do not even begin as a plan does.
+/// Nothing is written then.
 #[unsafe(no_mangle)]
 pub extern "C" fn tensor_run(
     alloc: Global,
@@ -179,6 +181,8 @@ pub extern "C" fn tensor_run(
         (record { result = result; out = out.new }) }
     ensures no_plan { ((p : Prepared) → plan.now ≢ record_of p)
         → IsRefused out.old (record { result = result; out = out.new }) }
+    ensures no_start { (Begins plan.now → ⊥)
+        → record { result = result; out = out.new } ≡ refused Refusal.NoRecord out.old }
     ensures len { length out.new ≡ length out.old }
 {
     put_planned(alloc, plan, arrays, first, out)

@@ -5,12 +5,13 @@ ghost use Rattle.std.specs.Prelude.{◌≡◌, ◌≢◌, ◌⊎◌, ◌≤ℤ�
 ghost use Rattle.std.specs.Prelude.{IfOk, IsErrOf, MatchResult};
 ghost use Rattle.expr_reader.specs.Arrays.{arrays_under};
 ghost use Rattle.expr_reader.specs.Request.{Asked};
-ghost use Rattle.prepared_expressions.specs.Prepared.{Prepared, record_of};
+ghost use Rattle.prepared_expressions.specs.Prepared.{Begins, Prepared, record_of};
+ghost use Rattle.prepared_expressions.specs.declared.refusal.Refusal.{Refusal};
 ghost use Rattle.tensor_c.specs.Answer.{or_fault};
 ghost use Rattle.tensor_c.specs.Call.{IsTooLong};
 ghost use Rattle.tensor_c.specs.Part.{IsPartCall};
 ghost use Rattle.tensor_c.specs.Plan.{asked_over, plan_over, prepared_of, called_for_plan};
-ghost use Rattle.tensor_c.specs.Plan.{IsPlan, IsPlanCall, answer_of_plan, IsRefused};
+ghost use Rattle.tensor_c.specs.Plan.{IsPlan, IsPlanCall, answer_of_plan, refused, IsRefused};
 
 use crate::faults::{result_of, result_of_refusal};
 use crate::part::put_filled;
@@ -85,6 +86,8 @@ pub(crate) fn put_planned(
         (record { result = result; out = out.new }) }
     ensures no_plan { ((p : Prepared) → plan.now ≢ record_of p)
         → IsRefused out.old (record { result = result; out = out.new }) }
+    ensures no_start { (Begins plan.now → ⊥)
+        → record { result = result; out = out.new } ≡ refused Refusal.NoRecord out.old }
     ensures len { length out.new ≡ length out.old }
 {
     match read_over(alloc, plan, arrays) {

@@ -1,13 +1,14 @@
-use Rattle.std.proofs.Common.{◌≡◌, [], length, true, Ok, inl, inr, ap, sym, subst, ◌∙◌, arith}
+use Rattle.std.proofs.Common.{◌≡◌, ◌<◌, ◌+◌, ◌^◌, ℕ, List, [], ◌∷◌, length, true, Ok, inl, inr, ap, sym, subst, ◌∙◌, arith}
 use Rattle.std.proofs.lemmas.List.{length-map}
 use Rattle.std.proofs.lemmas.Result.{err_from_is_err_and}
+use Rattle.tensor_shape.specs.declared.bounds.Bounds.{Bounds}
 use Rattle.tensor_terms.specs.Tree.{term_of}
 use Rattle.expr_reader.specs.Arrays.{arrays_under}
 use Rattle.expr_reader.specs.Bindings.{have_inputs}
 use Rattle.prepared_expressions.specs.Bindings.{terms_in}
-use Rattle.prepared_expressions.specs.Prepared.{terms_of, values_of_all, dealt}
+use Rattle.prepared_expressions.specs.Prepared.{terms_of, values_of_all, dealt, form_of, Begins, IsRecordable}
 use Rattle.prepared_expressions.specs.Recorded.{recorded_all}
-use Rattle.prepared_expressions.proofs.Dealing.{begun, told-ok, told-err, dealt-other, all_from-back, all_legal-within, filled-written}
+use Rattle.prepared_expressions.proofs.Dealing.{Begins-record, begun, told-ok, told-err, dealt-other, all_from-back, all_legal-within, filled-written}
 use Rattle.prepared_expressions.proofs.Dealing.{length-values_of_all, length-arrays_under}
 use Rattle.prepared_expressions.proofs.prepared.read_over.Goals as goal
 
@@ -125,3 +126,43 @@ returns-clause-whole c = λ q ok is.
       bounds = c.with_bounds-inputs.ensures.limit ∙ b.bounds;
       tensors = d.0 ∙ ap Ok (sym c.with_bounds-inputs.ensures.tensors);
     }
+
+pub returns-in_default-clause-whole : goal.returns-in_default-clause-whole
+returns-in_default-clause-whole c = λ q ok is. absurd (c.in_default.ensures.none (Begins-record q ok c.args.numbers.now is))
+
+-- what was read of a start is one
+begins : (numbers rest : List ℕ) (bounds : Bounds) (inputs bindings : ℕ) → IsRecordable bounds → inputs + bindings < 2 ^ 32
+    → numbers ≡ form_of bounds.elements ∷ bounds.rank ∷ inputs ∷ bindings ∷ rest → Begins numbers
+begins numbers rest bounds inputs bindings can few here = record {
+  bounds = bounds;
+  inputs = inputs;
+  bindings = bindings;
+  rest = rest;
+  recordable = can;
+  few = few;
+  here = here;
+}
+
+pub returns-then-count-arrays-clause-no_start : goal.returns-then-count-arrays-clause-no_start
+returns-then-count-arrays-clause-no_start c = λ none.
+    let s = c.in-Some.start in
+    absurd (none (begins c.args.numbers.now s.rest.now s.bounds s.inputs s.bindings
+    c.in-Some.ensures.bounds c.in-Some.ensures.few c.in-Some.ensures.found))
+
+pub returns-in_err-dealt-clause-no_start : goal.returns-in_err-dealt-clause-no_start
+returns-in_err-dealt-clause-no_start c = λ none.
+    let s = c.in-Some.start in
+    absurd (none (begins c.args.numbers.now s.rest.now s.bounds s.inputs s.bindings
+    c.in-Some.ensures.bounds c.in-Some.ensures.few c.in-Some.ensures.found))
+
+pub returns-in_err-read-clause-no_start : goal.returns-in_err-read-clause-no_start
+returns-in_err-read-clause-no_start c = λ none.
+    let s = c.in-Some.start in
+    absurd (none (begins c.args.numbers.now s.rest.now s.bounds s.inputs s.bindings
+    c.in-Some.ensures.bounds c.in-Some.ensures.few c.in-Some.ensures.found))
+
+pub returns-clause-no_start : goal.returns-clause-no_start
+returns-clause-no_start c = λ none.
+    let s = c.in-Some.start in
+    absurd (none (begins c.args.numbers.now s.rest.now s.bounds s.inputs s.bindings
+    c.in-Some.ensures.bounds c.in-Some.ensures.few c.in-Some.ensures.found))

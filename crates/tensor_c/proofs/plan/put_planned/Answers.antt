@@ -15,3 +15,9 @@ returns-in-Err-clause-call c = λ p plan is.
       | inl memory ↦ inr (rw (c.result_of_refusal.ensures, memory) refl, refl)
       | inr other ↦ inl (rw (other, c.result_of_refusal.ensures, dealt-err p.dims (arrays_under c.args.arrays.now) c.in-Err.refusal other) refl)
     ]
+
+pub returns-in-Err-clause-no_start : goal.returns-in-Err-clause-no_start
+returns-in-Err-clause-no_start c = λ none. rw (c.result_of_refusal.ensures, c.in-Err.ensures.no_start none) refl
+
+pub returns-in-Ok-clause-no_start : goal.returns-in-Ok-clause-no_start
+returns-in-Ok-clause-no_start c = λ none. absurd (c.in-Ok.ensures.no_start none)
