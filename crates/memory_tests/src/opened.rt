@@ -129,7 +129,7 @@ where
         ends,
         &NoGate,
         root,
-        || {
+        |_| {
             calls.fetch_add(1, Ordering::SeqCst);
         },
     )
@@ -155,7 +155,7 @@ where
         ends,
         &NoGate,
         root,
-        || {
+        |_| {
             calls.fetch_add(1, Ordering::SeqCst);
         },
     )

@@ -3,7 +3,9 @@
 ghost use Rattle.std.specs.Prelude.{◌≡◌, ◌<◌, ◌≤◌, ◌↔◌, All, IfOk, IsErrOf};
 ghost use Rattle.pool_barrier.specs.Shares.{barrier_id, notices_of, IsShareOf, IsWaiterOf};
 ghost use Rattle.run_queue.specs.Bag.{SameBag};
-ghost use Rattle.worker_pool.specs.Setup.{IsPoolSize, IsNoPoolSize, AreNoPartitions};
+ghost use Rattle.worker_pool.specs.Scheduled.{IsOnOneCount};
+ghost use Rattle.worker_pool.specs.Setup.{IsPoolSize, IsNoPoolSize, ArePartitions};
+ghost use Rattle.worker_pool.specs.Setup.{AreNoPartitions};
 ghost use Rattle.parallel_for.specs.Faults.{most_leaves, IsBlockLength, IsNoBlockLength};
 ghost use Rattle.parallel_for.specs.Items.{AreItems};
 ghost use Rattle.parallel_for.specs.Leaves.{blocks_of, leaves_of};
@@ -92,6 +94,8 @@ where
     requires inside { n ≤ K.size kernel.now }
     requires several { block < n }
     requires blocks { IsBlockLength n block }
+    requires workers { IsPoolSize setup.now.workers }
+    requires partitions { ArePartitions setup.now.workers setup.now.partitions.items }
     ensures items { IfOk result (λ items. AreItems (K.item_at kernel.now) 0 n items.items) }
 {
     let leaves = blocks(n, block);
@@ -122,6 +126,8 @@ where
     requires inside { n ≤ K.size kernel.now }
     requires several { block < n }
     requires blocks { IsBlockLength n block }
+    requires workers { IsPoolSize setup.now.workers }
+    requires partitions { ArePartitions setup.now.workers setup.now.partitions.items }
     ensures items { IfOk result (λ items. AreItems (K.item_at kernel.now) 0 n items.items) }
 {
     let range = CountedRange::of(alloc.clone()?, n, block)?;
@@ -182,6 +188,8 @@ where
     requires block { range.block ≡ D.block }
     requires barrier { barrier_id range.barrier ≡ D.barrier }
     requires inside { range.n ≤ D.size }
+    requires workers { IsPoolSize setup.now.workers }
+    requires partitions { ArePartitions setup.now.workers setup.now.partitions.items }
     ensures items { IfOk result (λ items. AreItems (K.item_at kernel) 0 range.n items.items) }
 {
     let CountedRange {
@@ -212,7 +220,9 @@ where
     K: Kernel + Drop + Send + Sync,
     K::Item: Send,
     A: Allocator + Clone + Send + Sync,
-    requires { IsWaiterOf ctx.now.barrier waiter }
+    requires waiter { IsWaiterOf ctx.now.barrier waiter }
+    requires workers { IsPoolSize setup.now.workers }
+    requires partitions { ArePartitions setup.now.workers setup.now.partitions.items }
     ensures right { IfOk result (λ lists.
         All (λ pieces. All (IsRight (K.item_at ctx.now.kernel)) pieces.items) lists.items) }
     ensures covered { IfOk result (λ lists.
@@ -225,15 +235,17 @@ where
         ctx,
         &NoGate,
         root,
-        ||
-            requires { IsWaiterOf ctx.now.barrier waiter }
+        |scheduled|
+            requires waiter { IsWaiterOf ctx.now.barrier waiter }
+            requires one_count { IsOnOneCount scheduled }
         {
             ctx.barrier.wait(rt, &mut waiter);
         },
     );
-    // The setup was checked, so the pool's only fault can be that it ran out of memory.
-    let Ok(closed) = closed else {
-        return Err(AllocError);
+    let closed = match closed {
+        Ok(closed) => closed,
+        Err(PoolFault::NoMemory) => return Err(AllocError),
+        Err(PoolFault::BadWorkers | PoolFault::BadPartition) => unreachable!(),
     };
     if closed.refused > 0 {
         return Err(AllocError);

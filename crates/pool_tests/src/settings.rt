@@ -162,7 +162,7 @@ fn a_gate_that_holds_the_first_turns(rt: HostRuntime) -> Result<(), Fail> {
         &(),
         &watch,
         root,
-        || {
+        |_| {
             wait_for(&ran, EARLY_LOOKS);
             watch.let_go.store(1, Ordering::SeqCst);
         },

@@ -85,7 +85,7 @@ pub(crate) fn grow<RT: Threads + Wait + Sync>(
             &(),
             &NoGate,
             root,
-            || {},
+            |_| {},
         );
     }
     if matches!(kind, Kind::Counted) {
@@ -96,7 +96,7 @@ pub(crate) fn grow<RT: Threads + Wait + Sync>(
             &(),
             &NoGate,
             root,
-            || {},
+            |_| {},
         );
     }
     let mut first = Vec::with_capacity(alloc, 1)?;

@@ -95,7 +95,7 @@ pub fn count_leaves<RT: Threads + Wait + Sync>(
         &(),
         &NoGate,
         Tree { height },
-        || {},
+        |_| {},
     )?;
     if closed.refused > 0 {
         return Err(PoolFault::NoMemory);

@@ -9,7 +9,7 @@ use Rattle.std.proofs.lemmas.List.Sums.{sum_by_push, count_by-le-length}
 use Rattle.worker_pool.specs.declared.opening.start.home.Home.{Home}
 use Rattle.worker_pool.specs.declared.opening.start.home.Start.TheVariants.{Joined, NotAsked}
 use Rattle.worker_pool.specs.Starts.{was_joined, was_asked, joined_of, AsksFirst, ComesHome}
-use Rattle.worker_pool.specs.Starts.{Returns}
+use Rattle.worker_pool.specs.Starts.{Ends}
 use Rattle.worker_pool.proofs.Growing.{All-snoc, length-snoc}
 
 module _ {X : Type 0} (homes : List (Home X)) (home : Home X) (all : List (Home X))
@@ -70,7 +70,7 @@ home-at_work is_at_work has_ended workplace [] [] came = All-nil _
 home-at_work is_at_work has_ended workplace [] (home ∷ homes) came = absurd came
 home-at_work is_at_work has_ended workplace (state ∷ states) [] came = absurd came
 home-at_work is_at_work has_ended workplace (state ∷ states) (home ∷ homes) came =
-    All-cons (λ at. is_at_work workplace at.state) home homes came.0.returned.at_work
+    All-cons (λ at. is_at_work workplace at.state) home homes came.0.at_work
     (home-at_work is_at_work has_ended workplace states homes came.1)
 
 -- two lists that get one item more at their ends
@@ -87,16 +87,13 @@ pub comes-snoc : {S X : Type 0} (is_at_work : S → X → Type 0) (has_ended : S
     (home : Home X) (all_homes : List (Home X)) → all ≡ states ++ state ∷ []
     → all_homes ≡ homes ++ home ∷ []
     → AllZip (ComesHome is_at_work has_ended workplace) states homes
-    → Returns is_at_work has_ended workplace state home.state
-    → (home.start ≡ NotAsked → home.state ≡ state)
+    → ComesHome is_at_work has_ended workplace state home
     → AllZip (ComesHome is_at_work has_ended workplace) all all_homes
-comes-snoc is_at_work has_ended workplace states state all homes home all_homes are came before now
-    kept =
+comes-snoc is_at_work has_ended workplace states state all homes home all_homes are came before now =
     let comes = ComesHome is_at_work has_ended workplace in
     subst (λ xs. AllZip comes xs all_homes) (sym are)
     (subst (λ ys. AllZip comes (states ++ state ∷ []) ys) (sym came)
-    (zip-snoc comes states homes state home before
-    (record { returned = now; kept = kept })))
+    (zip-snoc comes states homes state home before now))
 
 -- one more worker came home, for which a thread was asked for
 pub comes-asked : {S X : Type 0} (is_at_work : S → X → Type 0) (has_ended : S → X → X → Type 0)
@@ -104,9 +101,13 @@ pub comes-asked : {S X : Type 0} (is_at_work : S → X → Type 0) (has_ended : 
     (home : Home X) (all_homes : List (Home X)) → all ≡ states ++ state ∷ []
     → all_homes ≡ homes ++ home ∷ []
     → AllZip (ComesHome is_at_work has_ended workplace) states homes
-    → Returns is_at_work has_ended workplace state home.state → was_asked home.start ≡ true
+    → Ends is_at_work has_ended workplace state home.state → was_asked home.start ≡ true
     → AllZip (ComesHome is_at_work has_ended workplace) all all_homes
 comes-asked is_at_work has_ended workplace states state all homes home all_homes are came before now
     asked =
     comes-snoc is_at_work has_ended workplace states state all homes home all_homes are came before
-    now (λ not. absurd (true≢false (sym asked ∙ ap was_asked not)))
+    (record {
+      at_work = now.at_work;
+      ended = λ _. now.ended;
+      kept = λ not. absurd (true≢false (sym asked ∙ ap was_asked not));
+    })

@@ -8,6 +8,7 @@ pub mod Laws
 pub mod Nodes
 pub mod Openings
 pub mod Ran
+pub mod Scheduled
 pub mod Seats
 pub mod Seen
 pub mod Setup

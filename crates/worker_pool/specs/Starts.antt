@@ -50,9 +50,16 @@ module _ {S X : Type 0} (is_at_work : S → X → Type 0) (has_ended : S → X �
     pub at_work : is_at_work workplace after
     pub ended : has_ended workplace before after ⊎ (after ≡ before)
 
-  -- a worker's state came home, and is unchanged if no thread was asked for
+  -- a worker that was at work is still at work, and has ended
+  pub record Ends (workplace : S) (before after : X) : Type 0 where
+    pub at_work : is_at_work workplace after
+    pub ended : has_ended workplace before after
+
+  -- A worker's state came home. The worker has ended if a thread was asked for; otherwise its state
+  -- is unchanged.
   pub record ComesHome (workplace : S) (before : X) (home : Home X) : Type 0 where
-    pub returned : Returns workplace before home.state
+    pub at_work : is_at_work workplace home.state
+    pub ended : was_asked home.start ≡ true → has_ended workplace before home.state
     pub kept : home.start ≡ NotAsked → home.state ≡ before
 
   -- All workers came home, by number. For each of them a thread was asked for. The opening has

@@ -3,6 +3,7 @@
 ghost use Rattle.std.specs.Prelude.{◌≡◌, ◌≤◌, [], ◌∷◌, ◌++◌};
 ghost use Rattle.worker_pool.specs.Callers.{IsCaller, StaysCaller, Closes, IsCancelled, roots_of};
 ghost use Rattle.worker_pool.specs.Callers.{started_of, workers_of, stop_of};
+ghost use Rattle.worker_pool.specs.Scheduled.{scheduled_in, row_in, waker_in};
 
 use crate::job::Job;
 use crate::lists::Lists;
@@ -14,6 +15,7 @@ use crate::working::stop::{StopSeat, StopWord};
 use event_count::WaitPoint;
 use run_queue::Rows;
 use std::alloc::Allocator;
+use std::snapshot::Snapshot;
 use std::sync::Wait;
 
 /// The handle that a pool lends to its body, which schedules jobs through it.
@@ -38,6 +40,15 @@ pub struct Caller<
     pub(crate) refused: u64,
     /// Whether the body cancelled the pool through this caller.
     pub(crate) cancelled: bool,
+}
+
+/// What a caller has scheduled, and its seats at the rows and at the wait point. It takes no memory:
+/// contracts alone see it.
+#[derive(Drop)]
+pub struct Scheduled<J, S, T> {
+    stop_seat: Snapshot<StopSeat<J>>,
+    row: Snapshot<S>,
+    waker: Snapshot<T>,
 }
 
 impl<'p, J, A, W, R, L> Caller<'p, J, A, W, R, L>
@@ -83,6 +94,19 @@ where
         stop::cancel(self.stop, &mut self.stop_seat);
         self.cancelled = true;
         self.told = self.seats.wake_all(rt, self.queue, &self.stop_seat);
+    }
+
+    /// Returns what was scheduled through this caller so far.
+    pub fn scheduled(&self) -> Scheduled<J, R::Seat, W::Seat>
+        ensures jobs { scheduled_in result ≡ roots_of self.now }
+        ensures row { row_in result ≡ self.now.seats.row }
+        ensures waker { waker_in result ≡ self.now.seats.waker }
+    {
+        Scheduled {
+            stop_seat: Snapshot::of(&self.stop_seat),
+            row: Snapshot::of(&self.seats.row),
+            waker: Snapshot::of(&self.seats.waker),
+        }
     }
 
     /// Returns how many workers were started, which is at most the number of the setup.

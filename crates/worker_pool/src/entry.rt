@@ -7,9 +7,10 @@ ghost use Rattle.worker_pool.specs.Accounts.{Account};
 ghost use Rattle.worker_pool.specs.Callers.{IsCaller, StaysCaller, roots_of, started_of, stop_of};
 ghost use Rattle.worker_pool.specs.Closings.{HasClosed, all_outs};
 ghost use Rattle.worker_pool.specs.Laws.{law_of};
+ghost use Rattle.worker_pool.specs.Scheduled.{HasScheduled, HasScheduledAt, IsOnOneCount};
 ghost use Rattle.worker_pool.specs.Setup.{IsPoolSize, IsNoPoolSize, AreNoPartitions};
 
-use crate::caller::Caller;
+use crate::caller::{Caller, Scheduled};
 use crate::closed::Closed;
 use crate::closing::close::close;
 use crate::gate::Gate;
@@ -25,7 +26,7 @@ use run_queue::Rows;
 use std::alloc::Allocator;
 use std::sync::Wait;
 use std::thread::Threads;
-use waking_rows::{RowPoint, WakingRows};
+use waking_rows::{RowPoint, RowWaiter, WakingRows, WakingSeat};
 
 /// Opens a pool, and lends a caller to `body`. Workers run the jobs that the body schedules, and
 /// their kids. Returns once all jobs have run. If the body cancelled the pool, the jobs that nobody
@@ -119,7 +120,8 @@ where
     with_pool_by::<W, R, L, _, _, _, _, _, Apart>(rt, alloc, setup, ctx, gate, starts, body)
 }
 
-/// Does what `with_pool_limited` does, with the rows and the wait point that `O` opens.
+/// Does what `with_pool_limited` does, with the rows and the wait point that `O` opens. The caller
+/// that `body` gets is a caller of these.
 fn with_pool_by<W, R, L, RT, J, A, G, F, O>(
     rt: &RT,
     alloc: A,
@@ -146,6 +148,7 @@ where
     O: Opens<J, A, W, R>,
     requires body { (caller : _) → IsCaller R.Rows W.WaitPoint J.Job L.Lists caller.now
         → started_of caller.now ≤ starts
+        → O.joins caller.now.queue.now.rows caller.now.queue.now.point
         → F.pre body caller }
     requires stays { (before : _) → (after : _)
         → FnOnceReturnsAtMut F.FnOnce body before tt after
@@ -178,8 +181,8 @@ where
     Ok(close(rt, pool, ctx, opener, homes, opened.gathered))
 }
 
-/// Opens a pool, schedules the job `root` in it, and calls `then`, while workers run the job and
-/// its kids. Returns once all of them have run.
+/// Opens a pool, schedules the job `root` in it, and then calls `then`, while workers run the job
+/// and its kids. Returns once all of them have run.
 pub fn with_root<W, R, L, RT, J, A, G, F>(
     rt: &RT,
     alloc: A,
@@ -202,8 +205,8 @@ where
     R::Seat: Send,
     L: Lists<J::Out, A>,
     G: Gate + Sync,
-    F: FnOnce() + Drop,
-    requires then { F.pre then }
+    F: FnOnce(Scheduled<J, R::Seat, W::Seat>) + Drop,
+    requires then { (scheduled : _) → HasScheduled root scheduled → F.pre then scheduled }
     ensures bad_workers { IsErrOf result PoolFault.BadWorkers ↔ IsNoPoolSize setup.now.workers }
     ensures bad_partition { IsErrOf result PoolFault.BadPartition
         ↔ (IsPoolSize setup.now.workers
@@ -237,8 +240,9 @@ where
     A: Allocator + Clone + Send + Sync,
     L: Lists<J::Out, A>,
     G: Gate + Sync,
-    F: FnOnce() + Drop,
-    requires then { F.pre then }
+    F: FnOnce(Scheduled<J, WakingSeat<J>, RowWaiter>) + Drop,
+    requires then { (scheduled : _) → HasScheduled root scheduled → IsOnOneCount scheduled
+        → F.pre then scheduled }
     ensures bad_workers { IsErrOf result PoolFault.BadWorkers ↔ IsNoPoolSize setup.now.workers }
     ensures bad_partition { IsErrOf result PoolFault.BadPartition
         ↔ (IsPoolSize setup.now.workers
@@ -277,9 +281,12 @@ where
     R::Seat: Send,
     L: Lists<J::Out, A>,
     G: Gate + Sync,
-    F: FnOnce() + Drop,
+    F: FnOnce(Scheduled<J, R::Seat, W::Seat>) + Drop,
     O: Opens<J, A, W, R>,
-    requires then { F.pre then }
+    requires then { (queue : _) → (scheduled : _)
+        → HasScheduledAt R.Rows W.WaitPoint queue root scheduled
+        → O.joins queue.rows queue.point
+        → F.pre then scheduled }
     ensures bad_workers { IsErrOf result PoolFault.BadWorkers ↔ IsNoPoolSize setup.now.workers }
     ensures bad_partition { IsErrOf result PoolFault.BadPartition
         ↔ (IsPoolSize setup.now.workers
@@ -299,13 +306,15 @@ where
         setup.workers,
         |caller: &mut Caller<'_, J, A, W, R, L>|
             requires caller { IsCaller R.Rows W.WaitPoint J.Job L.Lists caller.old }
-            requires then { F.pre then }
+            requires then { (scheduled : _)
+                → HasScheduledAt R.Rows W.WaitPoint caller.old.queue.now root scheduled
+                → F.pre then scheduled }
             ensures stays { StaysCaller R.Rows W.WaitPoint J.Job L.Lists caller.old caller.new }
             ensures more { roots_of caller.new ≡ roots_of caller.old ++ root ∷ [] }
             ensures stop { stop_of caller.new ≡ stop_of caller.old }
         {
             caller.schedule(rt, root);
-            then();
+            then(caller.scheduled());
         },
     )
 }

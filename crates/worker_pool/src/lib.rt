@@ -38,9 +38,9 @@
 //! # How a pool ends
 //!
 //! When the body returns, the opener stores the stop word and wakes all workers. Each worker ends
-//! at its last turn and is joined. Jobs that are still in the rows are run by the opener, or handed
-//! back if the pool was cancelled. A worker whose thread could not be started takes no turn, and
-//! returns its state unused.
+//! at its last turn and is joined. If a worker's thread could not be started, the opener takes the
+//! worker's turns then. Jobs that are still in the rows are run by the opener, or handed back if the
+//! pool was cancelled. In a standing pool, a worker without a thread takes no turn.
 //!
 //! # Why each job ends once
 //!
@@ -74,7 +74,7 @@ mod standing;
 mod working;
 
 pub use boxed::{BoxedJob, BoxedTask, TaskOut};
-pub use caller::Caller;
+pub use caller::{Caller, Scheduled};
 pub use closed::Closed;
 pub use entry::{with_counted_root, with_pool, with_pool_limited, with_root};
 pub use gate::{Gate, NoGate};

@@ -60,6 +60,7 @@ where
     requires few { started ≤ pool.now.queue.workers }
     requires body { (caller : _) → IsCaller R.Rows W.WaitPoint J.Job L.Lists caller.now
         → started_of caller.now ≡ started
+        → caller.now.queue.now ≡ pool.now.queue
         → F.pre body caller }
     requires stays { (before : _) → (after : _)
         → FnOnceReturnsAtMut F.FnOnce body before tt after
@@ -178,6 +179,7 @@ where
     requires caller { IsCaller R.Rows W.WaitPoint J.Job L.Lists caller.old }
     requires body { (lent : _) → IsCaller R.Rows W.WaitPoint J.Job L.Lists lent.now
         → started_of lent.now ≡ started_of caller.old
+        → lent.now.queue.now ≡ caller.old.queue.now
         → F.pre body lent }
     requires stays { (before : _) → (after : _)
         → FnOnceReturnsAtMut F.FnOnce body before tt after

@@ -4,7 +4,7 @@
 ghost use Rattle.std.specs.Prelude.{◌≡◌, ℕ, ◌+◌, ◌<◌, ◌≤◌, [], All, vec_len, vec_capacity};
 ghost use Rattle.std.specs.List.{AllZip};
 ghost use Rattle.run_queue.specs.Limits.{most_rows};
-ghost use Rattle.worker_pool.specs.Starts.{IsToRun, HasRun, Returns, ComesHome, AsksFirst};
+ghost use Rattle.worker_pool.specs.Starts.{IsToRun, HasRun, Ends, ComesHome, AsksFirst};
 ghost use Rattle.worker_pool.specs.Starts.{joined_of};
 
 mod home;
@@ -14,7 +14,6 @@ pub(crate) use home::Home;
 use std::alloc::Allocator;
 use std::snapshot::Snapshot;
 use std::sync::Wait;
-use std::sync::atomic::{AtomicU64, Ordering};
 use std::thread;
 use std::thread::{Promise, Scope, Threads};
 
@@ -53,18 +52,14 @@ pub(crate) trait Opening<S> {
         ensures { has_left self workplace.now started result };
 }
 
-/// The promise of a worker's thread: a worker that began in this state is still at work at this
-/// workplace, and has ended or did nothing.
+/// The promise of a worker's thread: a worker that began in this state has ended at this workplace.
 #[derive(Drop)]
-pub(crate) struct ComeHome<S, X>(pub(crate) Snapshot<S>, pub(crate) Snapshot<X>);
+struct WorkToTheEnd<S, X>(Snapshot<S>, Snapshot<X>);
 
-impl<X, S: Workplace<X>> Promise<X> for ComeHome<S, X> {
+impl<X, S: Workplace<X>> Promise<X> for WorkToTheEnd<S, X> {
     ghost kept_by = { λ from state.
-        Returns S.is_at_work S.has_ended from.0.value from.1.value state };
+        Ends S.is_at_work S.has_ended from.0.value from.1.value state };
 }
-
-/// A number that no worker has.
-pub(crate) const NOBODY: u64 = u64::MAX;
 
 /// The bytes of stack of a worker, which are as many as Rust gives a thread. The C library's
 /// default is the limit of `ulimit -s`, commonly four times as much, which leaves room for few
@@ -72,8 +67,8 @@ pub(crate) const NOBODY: u64 = u64::MAX;
 pub(crate) const STACK: usize = 2 << 20;
 
 /// Starts a worker for each of the first `starts` states, and calls `opening` with the number of
-/// workers that were started. Returns all states, by number. A worker that was not started does
-/// nothing. The workers that count as started are the workers whose threads were joined.
+/// workers that were started. Returns all states, by number. A worker for which no thread was asked
+/// for does nothing. The workers that count as started are those whose threads were joined.
 pub(crate) fn run_first<RT, X, A, S, B>(
     rt: &RT,
     workplace: &S,
@@ -111,7 +106,6 @@ where
         ended.push_reserved(Home::not_asked(last));
         return (ended, state);
     }
-    let left_out = AtomicU64::new(NOBODY);
     thread::scope(
         thread::scope_env(),
         rt,
@@ -119,19 +113,17 @@ where
             requires { IsToRun S.is_at_work B.may_begin workplace.now states ended 0 opening }
             ensures { HasRun S.is_at_work S.has_ended B.has_left workplace.entry.now states ended 0
                 opening result }
-        { start_all(rt, scope, workplace, &left_out, states, ended, 0, opening) },
+        { start_all(rt, scope, workplace, states, ended, 0, opening) },
     )
 }
 
 /// Starts a worker for the last of the states, and then for the others, so that the first states
-/// come home first. If a thread cannot be started, this thread calls its function once the opening
-/// has ended, so that the state comes home. The worker's number is stored in `left_out` before,
-/// which tells the function to do nothing.
+/// come home first. If a thread cannot be started, this thread does the worker's work once the
+/// opening has ended. The work ends then, and the state comes home.
 fn start_all<'s, E, RT, X, A, S, B>(
     rt: &'s RT,
     scope: &Scope<'s, E>,
     workplace: &'s S,
-    left_out: &'s AtomicU64,
     mut states: Vec<X, A>,
     ended: Vec<Home<X>, A>,
     started: u32,
@@ -150,27 +142,19 @@ where
     let Some(next) = states.pop() else {
         return (ended, opening.run(workplace, started));
     };
-    let number = states.len() as u64;
     match Stack::new().stack_size(STACK).spawn_scoped_with(
         scope,
-        ComeHome(Snapshot::of(workplace), Snapshot::of(&next)),
+        WorkToTheEnd(Snapshot::of(workplace), Snapshot::of(&next)),
         move || -> X
             requires { S.is_at_work workplace.now next }
-            ensures { Returns S.is_at_work S.has_ended workplace.entry.now next result }
-        {
-            if left_out.load(Ordering::SeqCst) == number {
-                next
-            } else {
-                workplace.work(rt, next)
-            }
-        },
+            ensures { Ends S.is_at_work S.has_ended workplace.entry.now next result }
+        { workplace.work(rt, next) },
     ) {
         Ok(child) => {
             let (mut ended, state) = start_all(
                 rt,
                 scope,
                 workplace,
-                left_out,
                 states,
                 ended,
                 started + 1,
@@ -181,9 +165,8 @@ where
         }
         Err(refused) => {
             let (mut ended, state) = start_all(
-                rt, scope, workplace, left_out, states, ended, started, opening,
+                rt, scope, workplace, states, ended, started, opening,
             );
-            left_out.store(number, Ordering::SeqCst);
             ended.push_reserved(Home::refused(refused));
             (ended, state)
         }

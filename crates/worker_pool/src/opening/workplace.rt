@@ -87,6 +87,7 @@ where
         × (started ≤ workplace.pool.now.queue.workers)
         × ((caller : _) → IsCaller R.Rows W.WaitPoint J.Job L.Lists caller.now
         → started_of caller.now ≡ started
+        → caller.now.queue.now ≡ workplace.pool.now.queue
         → F.pre opening.body caller)
         × ((before : _) → (after : _)
         → FnOnceReturnsAtMut F.FnOnce opening.body before tt after

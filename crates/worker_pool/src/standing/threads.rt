@@ -7,14 +7,27 @@ ghost use Rattle.worker_pool.specs.Starts.{Returns};
 ghost use Rattle.worker_pool.specs.Stops.{open_word};
 ghost use Rattle.worker_pool.specs.Told.{told_of};
 
-use crate::opening::start::{ComeHome, Home, NOBODY, STACK, Workplace};
+use crate::opening::start::{Home, STACK, Workplace};
 use crate::working::job_queue::Told;
 use core::thread::Stack;
 use std::alloc::Allocator;
 use std::snapshot::Snapshot;
 use std::sync::atomic::{AtomicU64, Ordering};
 use std::sync::{Arc, Wait};
-use std::thread::{PromisedHandle, Threads, yield_now};
+use std::thread::{Promise, PromisedHandle, Threads, yield_now};
+
+/// The promise of a worker's thread: a worker that began in this state is still at work at this
+/// workplace, and has ended or did nothing.
+#[derive(Drop)]
+struct ComeHome<S, X>(Snapshot<S>, Snapshot<X>);
+
+impl<X, S: Workplace<X>> Promise<X> for ComeHome<S, X> {
+    ghost kept_by = { λ from state.
+        Returns S.is_at_work S.has_ended from.0.value from.1.value state };
+}
+
+/// A number that no worker has.
+const NOBODY: u64 = u64::MAX;
 
 /// A workplace that threads own together.
 #[derive(Drop)]

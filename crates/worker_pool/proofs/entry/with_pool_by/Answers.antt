@@ -1,4 +1,4 @@
-use Rattle.std.proofs.Common.{◌∙◌, arith, refl}
+use Rattle.std.proofs.Common.{◌∙◌, arith, refl, subst, sym}
 use Rattle.std.proofs.lemmas.Bool.{false_from_ne_true}
 use Rattle.worker_pool.proofs.Checks.{error-both_ok}
 use Rattle.worker_pool.proofs.entry.with_pool_by.Goals as goal
@@ -9,7 +9,9 @@ run_first-homes-requires-clause-begins g c κs within =
     λ started most few. (
       c.in_ok-opened.ensures.opened.opener,
       omega arith,
-      (λ caller is same. c.requires.body caller is (rw same few)),
+      (λ caller is same at. c.requires.body caller is (rw same few)
+          (subst (λ queue. g.O.Opens.joins queue.rows queue.point) (sym at)
+          c.in_ok-opened.ensures.joined)),
       (λ before after met is same. c.requires.stays before after met is (rw same few)),
     )
 

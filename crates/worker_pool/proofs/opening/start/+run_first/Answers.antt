@@ -1,4 +1,5 @@
-use Rattle.std.proofs.Common.{◌≡◌, ap, arith, inr}
+use Rattle.std.proofs.Common.{◌≡◌, ◌∙◌, ap, arith, sym}
+use Rattle.std.proofs.lemmas.Bool.{true≢false}
 use Rattle.worker_pool.specs.Starts.{was_asked}
 use Rattle.worker_pool.proofs.Growing.{All-last, All-snoc}
 use Rattle.worker_pool.proofs.Starting.{asks-all, asks-no_more, comes-snoc, home-at_work}
@@ -13,7 +14,12 @@ returns-then-len-starts-clause-home g t c =
     c.requires.at_work in
     comes-snoc work.is_at_work work.has_ended c.args.workplace.now _ _ _ _ _ _
     c.in-Some.ensures.items c.push_reserved.ensures.items c.run_first-ended.ensures.home
-    (record { at_work = rw same last; ended = inr same }) (λ _. same)
+    (record {
+      at_work = rw same last;
+      ended = λ asked. absurd (true≢false (sym asked ∙ ap (λ home. was_asked home.start)
+          c.not_asked.ensures));
+      kept = λ _. same;
+    })
 
 pub returns-then-len-starts-clause-at_work : goal.returns-then-len-starts-clause-at_work
 returns-then-len-starts-clause-at_work g t c =
