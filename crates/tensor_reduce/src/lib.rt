@@ -1,5 +1,6 @@
-//! Plans: an expression cut into steps, as Eigen evaluates a reduction or a contraction inside
-//! another expression, and the steps run on the workers of a pool.
+//! Plans: an expression cut into steps, which run on the workers of a pool. Inside another
+//! expression, an operation that combines values is a step of its own, as in Eigen a reduction or a
+//! contraction is.
 //!
 //! A [`Plan`] has the steps of an expression, children first. The steps are each reduction,
 //! contraction, convolution, take and operation along an axis, each operand of these that isn't an

@@ -95,9 +95,9 @@ pub fn eval<RT: Threads + Wait + Sync>(
 }
 
 /// Evaluates a request as [`eval`] does, if the request is over no limit of what it is allowed. Returns
-/// `None` if the deadline passes before the last part of the work begins. The clock is read by the
-/// calling thread, between parts that take as long as a reduction, a contraction, or an operation at
-/// each place of a tensor.
+/// `None` if the deadline passes before the last part of the work begins. The calling thread reads the
+/// clock before each part: a reduction, contraction, convolution, take or operation along an axis, an
+/// operand of one of these, or the result.
 ///
 /// # Errors
 ///
