@@ -139,14 +139,16 @@ class Compiled(Ways, unittest.TestCase):
     def test_several_threads(self):
         for _ in self.libraries():
             x, wrong = placeholder(4), []
-            f = compile((x * x).sum())
+            f, many = compile((x * x).sum()), compile(placeholder(100) * 2)
 
             def ask(number):
                 for it in range(20):
                     if f([number, it, 0, 1]).item() != number**2 + it**2 + 1:
                         wrong.append((number, it))
+                    if many([number + it] * 100).values != [2 * (number + it)] * 100:
+                        wrong.append((number, it))
 
-            made = [threading.Thread(target=ask, args=(it,)) for it in range(4)]
+            made = [threading.Thread(target=ask, args=(it,)) for it in range(16)]
             for it in made:
                 it.start()
             for it in made:
@@ -180,6 +182,26 @@ class Arrays(Ways, unittest.TestCase):
                     found = f(it, line)
                     numpy.testing.assert_array_equal(found.array(), wanted)
                     self.assertEqual(found.nested(), wanted.tolist())
+
+    def test_slices_without_gaps_and_with_gaps(self):
+        array = numpy.arange(6_000).reshape(60, 10, 10)
+        x = placeholder(array.shape)
+        for slices in (
+            lambda it: it[2:-3] * 2 + 1,
+            lambda it: it[..., 1:] - it[..., :-1],
+            lambda it: (it[5:50] - it[4:49]).sum(0),
+            lambda it: it[7:7] + it[8:8],
+        ):
+            wanted = slices(array)
+            for _ in self.libraries():
+                f = compile(slices(x))
+                for it in (array, numpy.asfortranarray(array)):
+                    numpy.testing.assert_array_equal(f(it).array(), wanted)
+                    numpy.testing.assert_array_equal(client.run(slices(tensor(it))).array(), wanted)
+        for _ in self.libraries():
+            own = array.copy()
+            compile(x[1:] - x[:-1])(own, out=own[1:])
+            numpy.testing.assert_array_equal(own[1:], array[1:] - array[:-1])
 
     def test_arrays_that_take_an_answer(self):
         rows = numpy.arange(4_200).reshape(60, 70)

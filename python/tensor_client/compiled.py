@@ -7,16 +7,20 @@ import ctypes
 import functools
 import inspect
 import struct
+from itertools import accumulate
 from typing import Any, Callable, Dict, Iterable, List, Sequence, Tuple, overload
 
 from .explaining import explain
 from .expressions import Expr
 from .faults import Fault, ShapeMismatch
 from .length import MOST_NODES
-from .library import Library, arrays_of, library_of
-from .memory import INT64, VALUE, as_memory, memory_for, numbers, place_of
+from .library import NUMBER, POINTER, SIZE, Library, arrays_of, library_of
+from .memory import (
+    INT64, LARGE, VALUE, Bytes, Held, as_memory, memory_for, memory_of, packed_bytes, place_of,
+)
 from .requests import Settings, framed
-from .results import Result, checked_out, lies_as_it_is
+from .results import Result, lies_as_it_is
+from .rewriting.at_hand import at_hand
 from .rewriting.bindings import in_order, with_others
 from .rules import Dims, product
 from .running import run
@@ -97,6 +101,26 @@ def as_lent(expr: Expr) -> Expr:
     return with_others(expr, few) if few else expr
 
 
+def fitting(value: Any, dims: Dims) -> Tensor:
+    """Returns an array of a call as a tensor. Raises ShapeMismatch for other dims than these."""
+    found = tensor(value)
+    if found.dims != dims:
+        raise ShapeMismatch(f"an array of dims {found.dims} where a placeholder has {dims}")
+    return found
+
+
+def lying(value: Any, dims: Dims, may_be_turned: bool = False) -> Tuple[Bytes, bool]:
+    """Returns the memory of an array of a call, and whether it lies in C order, if it may."""
+    if type(value) is list and dims == (len(value),) and {*map(type, value)} == {int}:
+        try:
+            return packed_bytes(value), False
+        except struct.error:
+            pass  # A number outside the range of i64, which is refused below.
+    found = fitting(value, dims)
+    is_turned = found.turned and may_be_turned
+    return as_memory(found.own if is_turned else found.held), is_turned
+
+
 class Plan:
     """What the library has prepared for an expression whose inputs lie in these orders. A plan also has
     the other arrays that the library takes: the arrays in the expression itself, as they lay when it was
@@ -105,7 +129,7 @@ class Plan:
     def __init__(
         self, library: Library, expr: Expr, inputs: Sequence[Tensor], settings: Settings, out: Any
     ) -> None:
-        expr = as_lent(expr)
+        expr = at_hand(as_lent(expr))
         result = Result(expr, out)
         # A few values are a list, in column-major order.
         if out is None and product(expr.dims or ()) <= FEW:
@@ -117,29 +141,66 @@ class Plan:
         arrays = arrays_of(parts)
         self.dims = library.dims_over(frame.header, arrays, len(parts))
         self.size, self.numbers = product(self.dims), library.prepared(frame)
-        self.length = len(self.numbers)
-
-        def shared() -> int:
-            return library.shared(frame, arrays)
-
-        self.parts = parts_worth(expr, self.size, settings.workers, shared)
-        self.room = ctypes.c_int64 * self.size
-        # `pairs` has the address and the size of each array. `slots` says which of these numbers
-        # is the address of which array of a call.
-        own = {id(it.own): at for at, it in enumerate(inputs)}
-        which = [own.get(id(it)) for it in frame.held]
-        self.slots = [(2 * at, it) for at, it in enumerate(which) if it is not None]
-        self.kept = [b"" if id(it) in own else as_memory(it) for it in frame.held]
-        pairs = [(place_of(it), len(held)) for it, held in zip(self.kept, frame.held)]
-        self.pairs = [it for pair in pairs for it in pair]
-        self.many, self.packed = len(pairs), struct.Struct(f"@{2 * len(pairs)}Q").pack
+        workers = settings.workers
+        self.parts = parts_worth(expr, self.size, workers, lambda: library.shared(frame, arrays))
+        # `pairs` has the address and the size of each array. `slots` says which of these numbers is the
+        # address of which array of a call, or of a part of it, and how many bytes are before the part.
+        self.pairs: List[int] = arrays[:]
+        given = [memoryview(as_memory(it.own)) for it in inputs]
+        numbers = {id(it.obj): at for at, it in enumerate(given) if it}
+        self.kept, self.slots = [], []
+        for at, it in enumerate(parts):
+            which = numbers.get(id(memoryview(it).obj)) if it else None
+            if which is None:
+                self.kept.append(it)
+            else:
+                self.slots.append((2 * at, which, arrays[2 * at] - place_of(given[which])))
+        self.packed = struct.Struct(f"@{len(arrays)}Q").pack
+        # Arguments of the library's function, before and after the arrays: calls convert nothing.
+        self.text = ctypes.byref(self.numbers), SIZE.from_param(len(self.numbers))
+        self.many, self.first = SIZE.from_param(len(parts)), NUMBER.from_param(0)
+        self.length = SIZE.from_param(self.size)
 
     def pairs_at(self, places: Sequence[int]) -> List[int]:
         """Returns the address and size of each array, with the arrays of a call at these addresses."""
         pairs = self.pairs[:]
-        for at, which in self.slots:
-            pairs[at] = places[which]
+        for at, which, offset in self.slots:
+            pairs[at] = places[which] + offset
         return pairs
+
+    def arguments(self, pairs: Sequence[int], out: memoryview) -> Tuple[Any, ...]:
+        """Returns the arguments of the library's function for these arrays and memory for an answer."""
+        place = POINTER.from_param(place_of(out))
+        return (*self.text, self.packed(*pairs), self.many, self.first, place, self.length)
+
+    def fill(self, library: Library, pairs: Sequence[int], out: memoryview) -> None:
+        """Writes the answer for these arrays."""
+        if self.parts > 1:
+            asked, many = (library.pool_run, self.numbers), len(pairs) // 2
+            library.fill(asked, self.packed(*pairs), many, out, self.parts)
+            return
+        count = library.run_plan(*self.arguments(pairs, out))
+        if count != self.size:
+            raise library.failed(count)
+
+
+class Workspace:
+    """Memory for one call at a time: for the values of its arrays, in column-major order, and for its
+    answer. The arguments of the library's function name this memory, and are made once."""
+
+    def __init__(self, plan: Plan, shapes: Sequence[Dims]) -> None:
+        self.size, self.dims, self.truth = plan.size, plan.dims, plan.truth
+        begins = [VALUE * it for it in accumulate(map(product, shapes), initial=0)]
+        self.memory = bytearray(max(begins[-1], VALUE))
+        self.answer = memory_for(plan.size)
+        self.spans = [slice(*it) for it in zip(begins, begins[1:])]
+        self.arrays: List[Any] = [
+            numpy and numpy.ndarray(dims, INT64, self.memory, begin, order="F")
+            for dims, begin in zip(shapes, begins)
+        ]
+        place = addressof(from_buffer(self.memory))
+        pairs = plan.pairs_at([place + it for it in begins])
+        self.arguments = plan.arguments(pairs, self.answer)
 
 
 class Compiled:
@@ -152,6 +213,13 @@ class Compiled:
         self.as_they_lie = lies_as_it_is(expr, MOST_NODES)
         self.library = library_of()
         self.plans: Dict[Any, Plan] = {}
+        # A few values are copied, which costs less than to ask for addresses. The copy of an answer with
+        # several axes would lie in another order.
+        dims = (0,) if expr.dims is None else expr.dims
+        most = FEW if len(dims) > 1 or settings.workers > 1 else LARGE
+        self.is_few = 0 < product(dims) <= most and sum(map(product, self.dims)) <= 2 * LARGE
+        # The workspaces that no call uses: calls at the same time have one each.
+        self.spare: List[Workspace] = []
 
     def __repr__(self) -> str:
         return f"<compiled {self.expr!r} of {len(self.inputs)} arrays>"
@@ -162,21 +230,24 @@ class Compiled:
             values = self._in_order(values, named)
         library = self.library
         if library is None:
-            return run(self._filled(map(tensor, values)), *self.settings, out=out)
-        places, kept, key = [], [], 1
-        for value, dims in zip(values, self.dims):
-            place, memory, is_turned = self._lying(value, dims)
-            places.append(place)
-            kept.append(memory)
-            key += key + is_turned
-        plan = self.plans.get(key)
-        if plan is None or plan.size > FEW or out is not None:
-            return self._at_length(library, key, places, out)
-        room, arrays = plan.room(), plan.packed(*plan.pairs_at(places))
-        count = library.run_plan(plan.numbers, plan.length, arrays, plan.many, 0, room, plan.size)
-        if count != plan.size:
+            return run(self._filled(values), *self.settings, out=out)
+        if not self.is_few or out is not None:
+            return self._at_length(library, values, out)
+        try:
+            own = self.spare.pop()
+        except IndexError:
+            own = Workspace(self._plan(library, 1 << len(values)), self.dims)
+        for value, dims, array, span in zip(values, self.dims, own.arrays, own.spans):
+            if type(value) is ARRAY and value.dtype is INT64 and value.shape == dims:
+                array[...] = value
+            else:
+                own.memory[span] = lying(value, dims)[0]
+        count = library.run_plan(*own.arguments)
+        if count != own.size:
             raise library.failed(count)
-        return Tensor(room[:], plan.dims, plan.truth)
+        answer: Held = own.answer.tolist() if own.size <= FEW else memory_of(own.answer)
+        self.spare.append(own)
+        return Tensor(answer, own.dims, own.truth)
 
     def _in_order(self, values: Sequence[Any], named: Dict[str, Any]) -> Tuple[Any, ...]:
         """Returns the arrays of a call, some of which are named, in the order of the placeholders."""
@@ -186,18 +257,15 @@ class Compiled:
             raise TypeError(f"{self!r} takes an array for each of {self.inputs!r}")
         return (*values, *behind)
 
-    def _filled(self, tensors: Iterable[Tensor]) -> Expr:
-        """Returns the expression with these tensors in place of its placeholders."""
-        given: Dict[int, Expr] = {}
-        for it, found in zip(self.inputs, tensors):
-            if found.dims != it.dims:
-                raise ShapeMismatch(f"an array of dims {found.dims} for {it!r}")
-            given[id(it)] = found
-        return with_others(self.expr, given)
+    def _filled(self, values: Iterable[Any]) -> Expr:
+        """Returns the expression with these arrays in place of its placeholders."""
+        return with_others(
+            self.expr, {id(it): fitting(value, it.dims or ()) for it, value in zip(self.inputs, values)}
+        )
 
-    def _lying(self, value: Any, dims: Dims) -> Tuple[int, Any, bool]:
+    def _place(self, value: Any, dims: Dims) -> Tuple[int, Any, bool]:
         """Returns the address of an array of a call, an object that keeps its memory, and whether it
-        lies in C order. Raises ShapeMismatch for other dims than these."""
+        lies in C order."""
         if type(value) is ARRAY and value.dtype is INT64 and value.shape == dims:
             is_turned = len(dims) > 1 and not value.flags.f_contiguous
             try:
@@ -207,44 +275,40 @@ class Compiled:
                     return place, value, is_turned
             except (TypeError, ValueError):
                 pass
-        elif type(value) is list and dims == (len(value),) and {*map(type, value)} == {int}:
-            try:
-                packed = bytearray(numbers(len(value)).pack(*value))
-                return addressof(from_buffer(packed)), packed, False
-            except struct.error:
-                pass  # A number outside the range of i64, which is refused below.
-        found = tensor(value)
-        if found.dims != dims:
-            raise ShapeMismatch(f"an array of dims {found.dims} where a placeholder has {dims}")
-        is_turned = found.turned and self.as_they_lie
-        memory = as_memory(found.own if is_turned else found.held)
+        memory, is_turned = lying(value, dims, self.as_they_lie)
         return place_of(memory), memory, is_turned
 
-    def _at_length(self, library: Library, key: int, places: List[int], out: Any) -> Tensor:
-        """Returns an answer of many values or in `out`, or the first answer for arrays in these orders."""
-        order = None if out is None else bool(checked_out(out).flags.f_contiguous)
-        named = key if out is None else (key, order)
-        plan = self.plans.get(named)
-        if plan is None:
-            plan = self.plans[named] = self._planned(library, key, out)
-        result = Result(self.expr, out, plan.is_turned)
-        pairs = plan.pairs_at(places)
+    def _at_length(self, library: Library, values: Sequence[Any], out: Any) -> Tensor:
+        """Returns the answer to a call that has many values or `out`."""
+        places, kept, key = [], [], 1
+        for value, dims in zip(values, self.dims):
+            place, memory, is_turned = self._place(value, dims)
+            places.append(place)
+            kept.append(memory)
+            key += key + is_turned
+        result = Result(self.expr, out, False)
+        plan = self._plan(library, key, out)
+        result.turned, pairs = plan.is_turned, plan.pairs_at(places)
         # If `out` overlaps an input, the answer goes to new memory first.
-        values = result.place(plan.dims, zip(pairs[::2], pairs[1::2]))
-        prepared = library.pool_run, plan.numbers
-        library.fill(prepared, plan.packed(*pairs), plan.many, values, plan.parts)
-        return result.tensor(values, plan.dims, plan.truth)
+        found = memory_for(plan.size) if out is None else result.place(plan.dims, pairs)
+        plan.fill(library, pairs, found)
+        return result.tensor(found, plan.dims, plan.truth)
 
-    def _planned(self, library: Library, key: int, out: Any) -> Plan:
-        """Returns the plan for arrays in these orders. The key has a bit for each array: 1 for C order."""
-        orders = [it == "1" for it in bin(key)[3:]]
+    def _plan(self, library: Library, key: int, out: Any = None) -> Plan:
+        """Returns the plan for arrays in these orders, which is made once. The key has a bit for each
+        array: 1 for C order."""
+        order = None if out is None else bool(out.flags.f_contiguous)
+        plan = self.plans.get((key, order))
+        if plan is not None:
+            return plan
         stand_ins = [
-            Tensor(memory_for(product(dims)), dims, turned=is_turned)
-            for dims, is_turned in zip(self.dims, orders)
+            Tensor(memory_for(product(dims)), dims, turned=bit == "1")
+            for dims, bit in zip(self.dims, bin(key)[3:])
         ]
         expr = self._filled(stand_ins)
         try:
-            return Plan(library, expr, stand_ins, self.settings, out)
+            plan = self.plans[key, order] = Plan(library, expr, stand_ins, self.settings, out)
+            return plan
         except Fault as fault:
             explain(fault, expr, self.settings)
             raise
@@ -263,12 +327,12 @@ class Traced:
         """Returns the tensor of the function's expression over these arrays."""
         if named:
             values = inspect.signature(self.function).bind(*values, **named).args
-        values = tuple(it if type(it) is ARRAY else tensor(it) for it in values)
-        shapes = tuple([it.shape for it in values])
+        arrays: List[Any] = [it if type(it) is ARRAY else tensor(it) for it in values]
+        shapes = tuple([it.shape for it in arrays])
         found = self.made.get(shapes)
         if found is None:
             found = self.made[shapes] = self.traced(shapes)
-        return found(*values, out=out)
+        return found(*arrays) if out is None else found(*arrays, out=out)
 
     def traced(self, shapes: Sequence[Dims]) -> Compiled:
         """Compiles the function's expression over placeholders of these dims.

@@ -136,9 +136,7 @@ class Expr(NumpyMethods):
 
     add: OfOther = pairwise("add", "Returns the sums: x + y.", "tensor([1, 2]) + 10", "[11, 12]")
     sub: OfOther = pairwise("sub", "Returns the differences: x - y.", "tensor([1, 2]) - 1", "[0, 1]")
-    mul: OfOther = pairwise(
-        "mul", "Returns the products: x * y.", "tensor([1, 2]) * [3, 4]", "[3, 8]"
-    )
+    mul: OfOther = pairwise("mul", "Returns the products: x * y.", "tensor([1, 2]) * [3, 4]", "[3, 8]")
     cwise_max: OfOther = pairwise(
         "cwise_max", "Returns the greater of each two values: numpy's maximum(x, y).",
         "tensor([1, 5]).cwise_max([3, 4])", "[3, 5]",

@@ -11,11 +11,12 @@ from . import finding
 from .expressions import Expr
 from .faults import Fault, ProgramFailed, fault_made
 from .length import FIRST_NODES, most_nodes
-from .memory import LARGE, VALUE, Bytes, as_memory, joined, memory_for, memory_of, place_of
+from .memory import LARGE, VALUE, Bytes, as_memory, memory_for, memory_of, place_of
 from .requests import DEEPEST, Framed, Settings, framed
 from .results import Result
 from .rewriting.bindings import bindings_of, with_others
 from .rewriting.mirrored import REDUCTIONS
+from .rewriting.at_hand import at_hand
 from .rules import MOST_ELEMENTS, Dims, product
 from .tensors import Tensor
 from .threads import FEWEST, parts_worth
@@ -40,6 +41,12 @@ def arrays_of(parts: List[Bytes]) -> Any:
     return (NUMBER * (2 * len(pairs)))(*[it for pair in pairs for it in pair])
 
 
+def typed(function: Any, *arguments: Any) -> Any:
+    """Gives a function of the library the types of its arguments and of its result."""
+    function.argtypes, function.restype = arguments, ctypes.c_int64
+    return function
+
+
 def check_version(opened: Any, named: str) -> None:
     """Refuses a library that has another version than this client."""
     from . import __version__  # The package has it by the time that a library is opened.
@@ -47,8 +54,7 @@ def check_version(opened: Any, named: str) -> None:
     function = getattr(opened, "tensor_version", None)
     if function is None:
         raise ProgramFailed(f"no library: {named} is older than this client, {__version__}")
-    function.argtypes, function.restype = [], ctypes.c_int64
-    number: int = function()
+    number: int = typed(function)()
     found = f"{number // 1_000_000}.{number // 1_000 % 1_000}.{number % 1_000}"
     if found != __version__:
         raise ProgramFailed(f"no library: {named} is version {found}, and this client {__version__}")
@@ -59,37 +65,24 @@ class Library:
 
     def __init__(self, path: str, by: str = "") -> None:
         self.path = path
+        over = [POINTER, SIZE, POINTER, SIZE, NUMBER, POINTER, SIZE]
         try:
             opened = ctypes.CDLL(path)
-            self.evaluate: Any = opened.tensor_evaluate
-            self.shared_by_parts: Any = opened.tensor_shared
-            self.dims_of_arrays: Any = opened.tensor_dims_of_arrays
-            self.prepare: Any = opened.tensor_prepare
-            self.run_plan: Any = opened.tensor_run
-            self.explain: Any = opened.tensor_explain
-            self.fault_name: Any = opened.tensor_fault_name
-            self.pool_open: Any = opened.tensor_pool_open
-            self.pool_run: Any = opened.tensor_pool_run
-            self.pool_evaluate: Any = opened.tensor_pool_evaluate_arrays
-            self.pool_close: Any = opened.tensor_pool_close
+            self.evaluate: Any = typed(opened.tensor_evaluate, *[POINTER, SIZE] * 4)
+            self.shared_by_parts: Any = typed(opened.tensor_shared, *[POINTER, SIZE] * 2)
+            self.dims_of_arrays: Any = typed(opened.tensor_dims_of_arrays, *[POINTER, SIZE] * 3)
+            self.prepare: Any = typed(opened.tensor_prepare, POINTER, SIZE, NUMBER, POINTER, SIZE)
+            # Without types a call converts nothing: a plan has converted the arguments.
+            self.run_plan: Any = typed(opened.tensor_run)
+            self.explain: Any = typed(opened.tensor_explain, POINTER, SIZE, NUMBER, POINTER, SIZE)
+            self.fault_name: Any = typed(opened.tensor_fault_name, ctypes.c_uint32, POINTER, SIZE)
+            self.pool_open: Any = typed(opened.tensor_pool_open, SIZE)
+            self.pool_run: Any = typed(opened.tensor_pool_run, POINTER, *over, SIZE)
+            self.pool_evaluate: Any = typed(opened.tensor_pool_evaluate_arrays, POINTER, *over, SIZE)
+            self.pool_close: Any = typed(opened.tensor_pool_close, POINTER)
         except (OSError, AttributeError) as fault:
             raise ProgramFailed(f"no library: {by}{path}: {fault}") from fault
         check_version(opened, f"{by}{path}")
-        over = [POINTER, SIZE, POINTER, SIZE, NUMBER, POINTER, SIZE]
-        for function, arguments in (
-            (self.evaluate, [POINTER, SIZE] * 4),
-            (self.shared_by_parts, [POINTER, SIZE] * 2),
-            (self.dims_of_arrays, [POINTER, SIZE] * 3),
-            (self.prepare, [POINTER, SIZE, NUMBER, POINTER, SIZE]),
-            (self.run_plan, over),
-            (self.explain, [POINTER, SIZE, NUMBER, POINTER, SIZE]),
-            (self.fault_name, [ctypes.c_uint32, POINTER, SIZE]),
-            (self.pool_run, [POINTER, *over, SIZE]),
-            (self.pool_evaluate, [POINTER, *over, SIZE]),
-            (self.pool_open, [SIZE]),
-            (self.pool_close, [POINTER]),
-        ):
-            function.argtypes, function.restype = arguments, ctypes.c_int64
         self.pool_open.restype, self.pool_close.restype = POINTER, None
 
     def run(self, expr: Expr, settings: Settings, out: Any = None) -> Tensor:
@@ -101,6 +94,8 @@ class Library:
             if found is not None:
                 found.truth = expr.truth
                 return found
+        if settings.version in (None, 3):
+            expr = at_hand(expr)
         memory = reduced_memory(expr, settings)
         if memory is not None and out is None:
             return self.reduced(expr, memory, settings)
@@ -122,12 +117,8 @@ class Library:
         # If dims of many values are known, the call that writes the values reports a fault.
         if dims is None or not LARGE <= product(dims) <= MOST_ELEMENTS:
             dims = self.dims_over(asked.header, arrays, len(parts))
-        values = result.place(dims, zip(arrays[::2], arrays[1::2]))
-
-        def shared() -> int:
-            return self.shared(asked, arrays)
-
-        count = parts_worth(expr, len(values), settings.workers, shared)
+        values = result.place(dims, arrays)
+        count = parts_worth(expr, len(values), settings.workers, lambda: self.shared(asked, arrays))
         self.fill((self.pool_evaluate, asked.header), arrays, len(parts), values, count)
         return result.tensor(values, dims, expr.truth)
 
@@ -161,11 +152,10 @@ class Library:
 
     def answered_at_once(self, asked: Framed, room: int) -> Optional[Tensor]:
         """Returns the tensor of a frame of few values, or None if it has more values than `room`."""
-        header, values, dims = asked.header, joined(asked.held), DIMS()
+        header, values, dims = asked.header, b"".join(map(as_memory, asked.held)), DIMS()
         # An array of ctypes, a slice of which is a list.
         out: Any = (ctypes.c_int64 * room)()
-        place = values if isinstance(values, bytes) else place_of(values)
-        count = self.evaluate(header, len(header), place, asked.size, out, room, dims, DIMS_ROOM)
+        count = self.evaluate(header, len(header), values, asked.size, out, room, dims, DIMS_ROOM)
         if count == NO_ROOM:
             return None
         if count < 0:
@@ -177,10 +167,6 @@ class Library:
         takes no memory for the arrays' values."""
         dims = DIMS()
         size = self.dims_of_arrays(header, len(header), arrays, many, dims, DIMS_ROOM)
-        return self.told(size, dims)
-
-    def told(self, size: int, dims: Any) -> Dims:
-        """Returns the dims that a call has written, or raises the fault that it returned."""
         if size < 0:
             raise self.fault(-size)
         return tuple(dims[1 : 1 + dims[0]])

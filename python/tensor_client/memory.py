@@ -39,15 +39,6 @@ def memory_of(values: Bytes) -> memoryview:
     return memoryview(bytearray(values)).cast("q")
 
 
-def few_of(values: bytes) -> List[int]:
-    """Returns these bytes of values as a list.
-
-    >>> few_of(bytes([5, 0, 0, 0, 0, 0, 0, 0]))
-    [5]
-    """
-    return list(numbers(len(values) // VALUE).unpack(values))
-
-
 def memory_of_array(array: Any) -> Tuple[memoryview, bool]:
     """Returns the memory of an array, and whether its values lie there in C order, the last axis
     fastest. It is the array's own if it has int64 in C or Fortran order without gaps. Otherwise it is a
@@ -80,11 +71,6 @@ def memory_of_range(values: range) -> memoryview:
     return memoryview(packed("q", values))
 
 
-def bytes_of(held: Held) -> bytes:
-    """Returns the bytes of values, copied."""
-    return packed_bytes(held) if isinstance(held, list) else held.tobytes()
-
-
 def as_memory(held: Held) -> Bytes:
     """Returns the memory of values. A list of values is copied."""
     return packed_bytes(held) if isinstance(held, list) else held
@@ -107,12 +93,6 @@ def packed_bytes(values: List[int]) -> bytes:
     return numbers(len(values)).pack(*values)
 
 
-def joined(held: List[Held]) -> Bytes:
-    """Returns the memory of all values, tensor by tensor."""
-    parts = [as_memory(it) for it in held]
-    return parts[0] if len(parts) == 1 else b"".join(parts)
-
-
 def place_of(memory: Bytes) -> int:
     """Returns the address of memory, which has to be kept as long as the address is used. The address is
     never null, even for empty memory."""
@@ -122,7 +102,7 @@ def place_of(memory: Bytes) -> int:
             return place
         return ctypes.addressof(ctypes.c_char.from_buffer(memory))
     begin = ctypes.c_char_p(memory if isinstance(memory, bytes) else b"")
-    return ctypes.cast(begin, ctypes.c_void_p).value or 0
+    return ctypes.c_void_p.from_buffer(begin).value or 0
 
 
 def overlaps(memory: memoryview, others: Iterable[Tuple[int, int]]) -> bool:

@@ -2,7 +2,7 @@
 
 from __future__ import annotations
 
-from typing import TYPE_CHECKING, Any, Protocol, Sequence, Union
+from typing import TYPE_CHECKING, Any, Callable, Protocol, Sequence, Union
 
 from . import rules
 from .values import listed, numbers_of, numpy, whole
@@ -16,6 +16,11 @@ if TYPE_CHECKING:
 
 Axis = Union[None, int, Sequence[int]]
 CUMULATIVE = "cumsum", "cumprod"
+# The functions that are methods too, with all their arguments. The package sets these methods.
+AS_FUNCTIONS = (
+    "argmax argmin argsort conj conjugate cumprod cumsum diagonal ptp repeat searchsorted squeeze "
+    "swapaxes trace".split()
+)
 # By reduction, the value that changes no result.
 IDENTITIES = {"sum": 0, "prod": 1, "maximum": -(2**63), "minimum": 2**63 - 1, "all": 1, "any": 0}
 COMBINED = {"sum": "add", "prod": "mul", "maximum": "cwise_max", "minimum": "cwise_min"}
@@ -39,9 +44,7 @@ class Reducing(Protocol):
 def reducing(operation: str, what: str, wanted: str) -> Any:
     """Returns a reduction as a method, with an example."""
 
-    def method(
-        self: Any, *axes: Any, axis: Axis = None, keepdims: bool = False, **more: Any
-    ) -> Expr:
+    def method(self: Any, *axes: Any, axis: Axis = None, keepdims: bool = False, **more: Any) -> Expr:
         found: Expr = self._combined(operation, axes, axis, keepdims, **more)
         return found
 
@@ -160,6 +163,15 @@ class NumpyMethods(NumpyWays):
 
     # Methods that are functions as well, with equal names.
 
+    if TYPE_CHECKING:
+        conj: Callable[[], Expr]
+        conjugate: Callable[[], Expr]
+        argmax, argmin, argsort = functions.argmax, functions.argmin, functions.argsort
+        cumsum, cumprod, ptp = functions.cumsum, functions.cumprod, functions.ptp
+        diagonal, trace, repeat = functions.diagonal, functions.trace, functions.repeat
+        squeeze, swapaxes = functions.squeeze, functions.swapaxes
+        searchsorted = functions.searchsorted
+
     def clip(self, min: Any = None, max: Any = None, out: None = None) -> Expr:
         """Returns the values, limited to the range from `min` to `max`. Either may be left out.
 
@@ -192,24 +204,6 @@ class NumpyMethods(NumpyWays):
         """As the function `round`."""
         return functions.round(self, decimals)
 
-    def conj(self) -> Expr:
-        """As the function `conj`: returns the values as they are."""
-        return functions.conj(self)
-
-    conjugate = conj
-
-    def squeeze(self, axis: Any = None) -> Expr:
-        """As the function `squeeze`."""
-        return functions.squeeze(self, axis)
-
-    def swapaxes(self, axis1: int, axis2: int) -> Expr:
-        """As the function `swapaxes`."""
-        return functions.swapaxes(self, axis1, axis2)
-
-    def repeat(self, repeats: Any, axis: Any = None) -> Expr:
-        """As the function `repeat`."""
-        return functions.repeat(self, repeats, axis)
-
     def take(self, indices: Any, axis: Any = None, out: None = None, mode: str = "raise") -> Expr:
         """As the function `take`."""
         written_nowhere(out)
@@ -218,39 +212,3 @@ class NumpyMethods(NumpyWays):
     def compress(self, condition: Any, axis: Any = None) -> Expr:
         """As the function `compress`, which takes the condition first."""
         return functions.compress(condition, self, axis)
-
-    def diagonal(self, offset: int = 0, axis1: int = 0, axis2: int = 1) -> Expr:
-        """As the function `diagonal`."""
-        return functions.diagonal(self, offset, axis1, axis2)
-
-    def trace(self, offset: int = 0, axis1: int = 0, axis2: int = 1, dtype: Any = None) -> Expr:
-        """As the function `trace`."""
-        return functions.trace(self, offset, axis1, axis2, dtype)
-
-    def argmax(self, axis: Any = None, out: None = None, keepdims: bool = False) -> Expr:
-        """As the function `argmax`."""
-        return functions.argmax(self, axis, out, keepdims)
-
-    def argmin(self, axis: Any = None, out: None = None, keepdims: bool = False) -> Expr:
-        """As the function `argmin`."""
-        return functions.argmin(self, axis, out, keepdims)
-
-    def argsort(self, axis: Any = -1, kind: Any = "stable") -> Tensor:
-        """As the function `argsort`."""
-        return functions.argsort(self, axis, kind)
-
-    def searchsorted(self, v: Any, side: str = "left", sorter: Any = None) -> Tensor:
-        """As the function `searchsorted`."""
-        return functions.searchsorted(self, v, side, sorter)
-
-    def ptp(self, axis: Any = None, keepdims: bool = False) -> Expr:
-        """As the function `ptp`."""
-        return functions.ptp(self, axis, keepdims)
-
-    def cumsum(self, axis: Any = None, dtype: Any = None, out: None = None) -> Expr:
-        """As the function `cumsum`."""
-        return functions.cumsum(self, axis, dtype, out)
-
-    def cumprod(self, axis: Any = None, dtype: Any = None, out: None = None) -> Expr:
-        """As the function `cumprod`."""
-        return functions.cumprod(self, axis, dtype, out)

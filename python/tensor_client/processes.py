@@ -61,8 +61,7 @@ class Process(Stream):
         self.child.kill()
 
     def close(self) -> None:
-        self.is_over = True
-        self.child.kill()
+        super().close()
         for stream in self.streams:
             stream.close()
         self.child.wait()
@@ -88,10 +87,6 @@ class Connection(Stream):
         super().__init__(name, self.socket.fileno(), self.socket.fileno())
 
     def end(self) -> None:
-        self.socket.close()
-
-    def close(self) -> None:
-        self.is_over = True
         self.socket.close()
 
     def send(self, parts: List[memoryview]) -> int:

@@ -5,9 +5,7 @@ from __future__ import annotations
 import json
 from functools import lru_cache
 from operator import itemgetter
-from typing import (
-    Any, Callable, Dict, Iterable, List, NamedTuple, Optional, Set, Tuple, Union,
-)
+from typing import Any, Callable, Dict, Iterable, List, NamedTuple, Optional, Set, Tuple, Union
 
 from .expressions import Expr
 from .faults import BadVersion, Fault, TooLong, fault_made
@@ -16,9 +14,7 @@ from .length import (
     too_many_nodes, too_many_values,
 )
 from .memory import Held
-from .rewriting.bindings import (
-    ALONG_AN_AXIS, FEWEST, Bindings, bindings_of, bound_by_depth,
-)
+from .rewriting.bindings import ALONG_AN_AXIS, FEWEST, Bindings, bindings_of, bound_by_depth
 from .rewriting.chains import GROUPED, balanced
 from .rewriting.texts import as_in_texts
 from .rules import FIRST_ELEMENTS, FIRST_PRODUCTS, MOST_ELEMENTS, Dims, places, product

@@ -48,18 +48,18 @@ class Result:
         if self.out is not None and self.out.shape != wanted:
             raise ValueError(f"out has dims {self.out.shape}, and the answer {wanted}")
 
-    def own(self, inputs: Iterable[Tuple[int, int]]) -> Optional[memoryview]:
+    def own(self, inputs: Sequence[int]) -> Optional[memoryview]:
         """Returns the memory of `out` if the answer can be written into it directly: if the order is
-        right and no input overlaps it. Each input is an address and a number of values."""
+        right and no input overlaps it. Each input is an address and, after it, a number of values."""
         if self.out is None or not (self.turned or self.out.flags.f_contiguous):
             return None
         own = memory_of_out(self.out)
-        if overlaps(own, inputs):
+        if overlaps(own, zip(inputs[::2], inputs[1::2])):
             return None
         self.own_memory = own
         return own
 
-    def place(self, dims: Dims, inputs: Iterable[Tuple[int, int]]) -> memoryview:
+    def place(self, dims: Dims, inputs: Sequence[int]) -> memoryview:
         """Returns memory for an answer of these dims, which overlaps no input: the memory of `out` if
         possible."""
         self.check(dims)
@@ -67,7 +67,8 @@ class Result:
 
     def place_of_frame(self, inputs: Sequence[Held]) -> Optional[Place]:
         """Returns the memory of `out`, for the values of a frame with its dims."""
-        own = self.own((place_of(it), len(it)) for it in inputs if not isinstance(it, list))
+        pairs = [(place_of(it), len(it)) for it in inputs if not isinstance(it, list)]
+        own = self.own([number for pair in pairs for number in pair])
         if own is None:
             return None
         dims = self.out.shape[::-1] if self.turned else self.out.shape

@@ -16,7 +16,7 @@ from .memory import FEW
 from .processes import Connection, Process, answered_once
 from .requests import Settings, answer, fitting_request, framed, header_answer, request
 from .results import Result, written
-from .rewriting.parts import at_once_or_in_parts
+from .rewriting.parts import Ask, at_once_or_in_parts
 from .rules import product
 from .streams import Deadline, Stream, frame_asked, line_asked
 from .tensors import Tensor, an_expr, tensor
@@ -64,6 +64,11 @@ def run(
             return library.run(it, settings, place)
         return answered(it, settings, program, timeout, way, place)
 
+    return explained(asked, settings, ask, out)
+
+
+def explained(asked: Expr, settings: Settings, ask: Ask, out: Any) -> Tensor:
+    """Returns the tensor of an expression. Gives a fault its reason, if that is found."""
     try:
         return at_once_or_in_parts(asked, ask, out)
     except Fault as fault:
@@ -183,11 +188,7 @@ class Session:
         def ask(it: Expr, place: Any) -> Tensor:
             return self._answered(it, settings, seconds, place)
 
-        try:
-            return at_once_or_in_parts(asked, ask, out)
-        except Fault as fault:
-            explain(fault, asked, settings)
-            raise
+        return explained(asked, settings, ask, out)
 
     def keep(self, expr: Any) -> Tensor:
         """Returns the tensor of an expression that several requests use. Without it, each request would
@@ -200,9 +201,7 @@ class Session:
         """
         return self.run(expr)
 
-    def _answered(
-        self, expr: Expr, settings: Settings, seconds: Optional[float], out: Any
-    ) -> Tensor:
+    def _answered(self, expr: Expr, settings: Settings, seconds: Optional[float], out: Any) -> Tensor:
         """Returns the tensor of an expression, or raises its fault."""
         if self.way == "lines":
             text = fitting_request(expr, settings)

@@ -7,14 +7,15 @@ import os
 import select
 import struct
 import time
-from typing import Any, List, NamedTuple, Optional, Tuple
+from typing import Any, Callable, List, NamedTuple, Optional, Tuple, TypeVar
 
 from .faults import ProgramFailed, TimedOut
 from .length import MAX_TEXT
-from .memory import FEW, VALUE, Bytes, Held, few_of, memory_for, memory_of, parts_of
+from .memory import FEW, VALUE, Bytes, Held, memory_for, memory_of, numbers, parts_of
 from .requests import Framed
 from .rules import MOST_ELEMENTS
 
+Found = TypeVar("Found")
 SIZES = struct.Struct("<QQ")
 # The most bytes of one read, and the most parts of one write.
 PIECE, PARTS = 1 << 16, 1000
@@ -65,7 +66,8 @@ class Stream:
 
     def close(self) -> None:
         """Ends the stream and closes its files."""
-        raise NotImplementedError
+        self.is_over = True
+        self.end()
 
     def send(self, parts: List[memoryview]) -> int:
         """Writes bytes from the beginning of these parts, without waiting. Returns how many."""
@@ -114,28 +116,24 @@ class Stream:
 
     def read(self, deadline: Deadline) -> bytes:
         """Returns the next bytes, as many as one read gives."""
-        self.await_some(deadline)
-        try:
-            found = os.read(self.source, PIECE)
-        except OSError as fault:
-            raise self.failed(str(fault.strerror)) from fault
+        found = self.come(os.read, PIECE, deadline)
         self.note(len(found))
         return found
 
     def read_into(self, room: memoryview, deadline: Deadline) -> int:
         """Reads the next bytes into the beginning of `room`, and returns how many."""
-        self.await_some(deadline)
-        try:
-            count = os.readv(self.source, [room])
-        except OSError as fault:
-            raise self.failed(str(fault.strerror)) from fault
+        count = self.come(os.readv, [room], deadline)
         self.note(count)
         return count
 
-    def await_some(self, deadline: Deadline) -> None:
-        """Waits until something can be read. Without a deadline the read itself waits."""
+    def come(self, read: Callable[[int, Any], Found], what: Any, deadline: Deadline) -> Found:
+        """Returns what a read returns. It waits until the deadline, or without one in the read itself."""
         if deadline.end is not None:
             self.wait(self.source, select.POLLIN, deadline)
+        try:
+            return read(self.source, what)
+        except OSError as fault:
+            raise self.failed(str(fault.strerror)) from fault
 
     def note(self, count: int) -> None:
         """Counts bytes that were read. Raises ProgramFailed for none: the stream has ended."""
@@ -189,7 +187,7 @@ def frame_asked(
     if place is not None and (header, count) == (place.header, len(place.memory)):
         values: Held = filled(stream, begun, place.memory, deadline)
     elif len(begun) == VALUE * count:
-        values = few_of(begun) if count <= FEW else memory_of(begun)
+        values = [*numbers(count).unpack(begun)] if count <= FEW else memory_of(begun)
     else:
         values = filled(stream, begun, memory_for(count), deadline)
     stream.answered += 1

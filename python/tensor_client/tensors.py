@@ -9,13 +9,11 @@ from typing import Any, Iterator, List, Optional, Sequence, Union
 from . import rules
 from .expressions import Expr
 from .faults import BadTensor
-from .memory import (
-    LARGE, Held, bytes_of, columns_of, memory_of, memory_of_array, memory_of_range,
-)
+from .memory import LARGE, Held, as_memory, columns_of, memory_of, memory_of_array, memory_of_range
 from .rules import Dims
 from .showing import shown, shown_as_list
 from .values import (
-    LISTS, Unanswered, are_bools, checked, checked_array, is_bool, listed, nested, numbers_of,
+    LISTS, PLAIN, Unanswered, are_bools, checked, checked_array, is_bool, listed, nested, numbers_of,
     numpy, unnested, value_of, whole,
 )
 
@@ -35,15 +33,15 @@ class Tensor(Expr):
     """
 
     __slots__ = ("own", "shared", "turned", "listed", "lent")
+    # Attributes that all tensors have alike: each answer is a new tensor.
+    operation, operands, arguments, depth, nodes = "tensor", (), (), 1, 1
 
     def __init__(
         self, values: Held, dims: Sequence[int], truth: bool = False, shared: bool = False,
         turned: bool = False,
     ) -> None:
-        # As Expr.__init__ does, but faster: each answer is a new tensor.
-        self.operation, self.operands, self.arguments = "tensor", (), ()
-        self.dims, self.truth, self.depth, self.nodes = tuple(dims), truth, 1, 1
-        self.own, self.shared, self.turned, self.ran = values, shared, turned, 0
+        self.own, self.dims, self.truth = values, tuple(dims), truth
+        self.shared, self.turned = shared, turned
         self.listed: Optional[List[int]] = None
 
     @property
@@ -95,7 +93,7 @@ class Tensor(Expr):
 
     def __reduce__(self) -> Any:
         # A memoryview can't be pickled, but bytes can.
-        return tensor_held, (bytes_of(self.held), self.dims, self.truth)
+        return tensor_held, (bytes(as_memory(self.held)), self.dims, self.truth)
 
     @property
     def values(self) -> List[int]:
@@ -235,6 +233,8 @@ def tensor(values: Any, dims: Optional[Sequence[int]] = None) -> Tensor:
         if rules.product(sizes) != len(found):
             raise BadTensor(f"{len(found)} values for dims {sizes}")
         return Tensor(found, sizes)
+    if type(values) is int:
+        return Tensor([whole(values)], ())
     if isinstance(values, Tensor):
         return values
     if isinstance(values, Expr):
@@ -253,7 +253,7 @@ def tensor(values: Any, dims: Optional[Sequence[int]] = None) -> Tensor:
 def array_of(values: Any) -> Any:
     """Returns an array of numpy over the memory of an array, of a buffer, or of an object that another
     library lends. Returns None for other objects, and without numpy."""
-    if numpy is None:
+    if numpy is None or type(values) in PLAIN:
         return None
     if isinstance(values, (numpy.ndarray, numpy.generic)):
         return checked_array(numpy.asanyarray(values))

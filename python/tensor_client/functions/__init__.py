@@ -25,3 +25,5 @@ if not typing.TYPE_CHECKING:
     for _name, _it in [*globals().items()]:
         if inspect.isfunction(_it):
             globals()[_name] = _or_numpys(_it)
+    for _name in methods.AS_FUNCTIONS:
+        setattr(methods.NumpyMethods, _name, globals()[_name])

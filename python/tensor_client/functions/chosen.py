@@ -14,9 +14,7 @@ from .common import flat, moved, named_axes, part
 from .counted import nonzero
 from .joined import concatenate
 
-__all__ = [
-    "compress", "extract", "select", "sliding_window_view", "take", "where",
-]
+__all__ = ["compress", "extract", "select", "sliding_window_view", "take", "where"]
 
 
 # The most nodes of values that are taken in parts.

@@ -10,9 +10,7 @@ from ..tensors import an_expr
 from ..values import NumpysOwn
 from .matrices import diagonal
 
-__all__ = [
-    "einsum",
-]
+__all__ = ["einsum"]
 
 # Digits name the axes that `...` stands for. The last digit names the last axis.
 DIGITS = "01234567"

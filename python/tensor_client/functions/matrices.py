@@ -10,9 +10,7 @@ from ..tensors import an_expr, tensor
 from ..values import whole
 from .common import as_dtype, part
 
-__all__ = [
-    "diag", "diagflat", "diagonal", "eye", "identity", "trace", "tri", "tril", "triu",
-]
+__all__ = ["diag", "diagflat", "diagonal", "eye", "identity", "trace", "tri", "tril", "triu"]
 
 
 def places(rows: int, columns: Optional[int], offset: int) -> List[Expr]:

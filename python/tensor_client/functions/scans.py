@@ -12,9 +12,7 @@ from ..tensors import an_expr, where
 from .common import as_dtype, flat, moved, part
 from .matrices import tri
 
-__all__ = [
-    "cumprod", "cumsum", "cumulative_prod", "cumulative_sum",
-]
+__all__ = ["cumprod", "cumsum", "cumulative_prod", "cumulative_sum"]
 
 
 def cumsum(a: Any, axis: Any = None, dtype: Any = None, out: None = None) -> Expr:

@@ -98,6 +98,7 @@ def of_two(name: str, method: str, what: str, example: str, wanted: str) -> OfTw
     return found
 
 
+positive = of_one("positive", "__pos__", "Returns the values as they are.", "[1, -2]", "[1, -2]")
 negative = of_one("negative", "neg", "Returns the negated values: -x.", "[1, -2]", "[-1, 2]")
 absolute = of_one("absolute", "abs", "Returns the absolute values.", "[1, -2]", "[1, 2]")
 square = of_one("square", "square", "Returns each value squared.", "[1, -2]", "[1, 4]")
@@ -125,12 +126,8 @@ equal = of_two("equal", "eq", "1 where x == y, else 0.", "[1, 2], 2", "[0, 1]")
 not_equal = of_two("not_equal", "ne", "1 where x != y, else 0.", "[1, 2], 2", "[1, 0]")
 greater = of_two("greater", "gt", "1 where x > y, else 0.", "[2, 3], 2", "[0, 1]")
 greater_equal = of_two("greater_equal", "ge", "1 where x >= y, else 0.", "[1, 2], 2", "[0, 1]")
-logical_and = of_two(
-    "logical_and", "and_", "1 where neither value is 0, else 0.", "[0, 5], 7", "[0, 1]"
-)
-logical_or = of_two(
-    "logical_or", "or_", "1 where some value isn't 0, else 0.", "[0, 5], 0", "[0, 1]"
-)
+logical_and = of_two("logical_and", "and_", "1 where neither value is 0, else 0.", "[0, 5], 7", "[0, 1]")
+logical_or = of_two("logical_or", "or_", "1 where some value isn't 0, else 0.", "[0, 5], 0", "[0, 1]")
 bitwise_and = of_two(
     "bitwise_and", "__and__", "Returns the bits that both have: x & y.", "[12, 5], 10", "[8, 0]"
 )
@@ -140,12 +137,8 @@ bitwise_or = of_two(
 bitwise_xor = of_two(
     "bitwise_xor", "__xor__", "Returns the bits that only one has: x ^ y.", "[12, 5], 10", "[6, 15]"
 )
-left_shift = of_two(
-    "left_shift", "__lshift__", "Returns x << n: x * 2**n.", "[1, -2], 3", "[8, -16]"
-)
-right_shift = of_two(
-    "right_shift", "__rshift__", "Returns x >> n: x // 2**n.", "[9, -9], 1", "[4, -5]"
-)
+left_shift = of_two("left_shift", "__lshift__", "Returns x << n: x * 2**n.", "[1, -2], 3", "[8, -16]")
+right_shift = of_two("right_shift", "__rshift__", "Returns x >> n: x // 2**n.", "[9, -9], 1", "[4, -5]")
 floor_divide = of_two(
     "floor_divide", "floor_divide", "Returns x // y, rounded down.", "[7, -7], 2", "[3, -4]"
 )
@@ -176,15 +169,6 @@ def logical_xor(x1: Any, x2: Any) -> Expr:
     [1, 0]
     """
     return as_dtype(x1, bool).ne(as_dtype(x2, bool))
-
-
-def positive(x: Any) -> Expr:
-    """Returns the values as they are.
-
-    >>> run(positive([1, -2])).values
-    [1, -2]
-    """
-    return an_expr(x)
 
 
 # For numpy these change fractions or imaginary parts, which whole numbers don't have.

@@ -95,7 +95,8 @@ def lists_reversed(expr: Expr, operands: List[Expr]) -> Expr:
     return again(expr, operands, [it[::-1] for it in expr.arguments])
 
 
-def shuffled(expr: Expr, operands: List[Expr]) -> Expr:
+def of_all_axes(expr: Expr, operands: List[Expr]) -> Expr:
+    """Reverses an operation whose argument is the order of the axes, or the axes of a kernel."""
     last = last_axis(expr)
     return again(expr, operands, [[last - it for it in expr.arguments[0][::-1]]])
 
@@ -121,12 +122,6 @@ def contracted(expr: Expr, operands: List[Expr]) -> Expr:
     return again(expr, operands[::-1], [pairs])
 
 
-def convolved(expr: Expr, operands: List[Expr]) -> Expr:
-    """Reverses a convolution: the axes of its kernel, and the list of axes along which they lie."""
-    last = last_axis(expr)
-    return again(expr, operands, [[last - it for it in expr.arguments[0][::-1]]])
-
-
 def in_other_dims(expr: Expr, operands: List[Expr]) -> Expr:
     """Reverses a reshape. A reshape goes by places in column-major order, which reversed axes change. So
     the operand is turned back, unless only axes of length 1 are added or removed."""
@@ -143,10 +138,10 @@ MIRRORS: Dict[str, Mirror] = {
     **dict.fromkeys("broadcast slice reverse stride pad".split(), lists_reversed),
     **dict.fromkeys(REDUCTIONS, reduced),
     **dict.fromkeys(ALONG_AN_AXIS, of_one_axis),
-    "shuffle": shuffled,
+    "shuffle": of_all_axes,
     "chip": chipped,
     "concat": of_one_axis,
     "contract": contracted,
-    "convolve": convolved,
+    "convolve": of_all_axes,
     "reshape": in_other_dims,
 }

@@ -16,7 +16,7 @@ FIRST_PART, PART = (500, 110), (3_000, 1_500)
 Ask = Callable[[Expr, Any], Tensor]
 
 
-def at_once_or_in_parts(expr: Expr, ask: Ask, out: Optional[Any] = None) -> Tensor:
+def at_once_or_in_parts(expr: Expr, ask: Ask, out: Any) -> Tensor:
     """Returns the tensor of an expression, by one request, or by several if one is too small for it."""
     try:
         return ask(expr, out)
