@@ -258,11 +258,9 @@ pub fn read_part<'a>(
     expr: &Value,
 ) -> Result<Outline<'a>, Fault>
     ensures outline { MatchResult result
-        (λ outline. part_from values.entry (view parsed.now.value) (view expr.now)
-        ≡ Ok (outlined outline))
+        (λ outline. part_from values.entry (view parsed.now.value) (view expr.now) ≡ Ok (outlined outline))
         (λ fault. (fault ≡ Fault.NoMemory)
-        ⊎ (unlocated (part_from values.entry (view parsed.now.value) (view expr.now))
-        ≡ Err fault)) }
+        ⊎ (unlocated (part_from values.entry (view parsed.now.value) (view expr.now)) ≡ Err fault)) }
     ensures unbound { values.entry ≡ Values.InText
         → IfOk result (λ outline. outline.bindings.items ≡ []) }
 {

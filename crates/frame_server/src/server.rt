@@ -65,8 +65,7 @@ where
     ensures noted_whole { (stream held : List ℕ) → C.remaining client.old ≡ Some stream
         → C.contents client.old ≡ Some held → result.1 ≡ Err StreamFault.ReadFault
         → NotesWholeFrames service.limits (J.logs service.journal) stream held
-        (C.remaining client.new) (C.contents client.new)
-        (J.noted service.journal) (J.noted result.0) }
+        (C.remaining client.new) (C.contents client.new) (J.noted service.journal) (J.noted result.0) }
     // An answer that wasn't written whole is not noted.
     ensures noted_some { (stream held : List ℕ) → C.remaining client.old ≡ Some stream
         → C.contents client.old ≡ Some held → result.1 ≡ Err StreamFault.WriteFault

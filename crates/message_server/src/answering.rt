@@ -45,20 +45,16 @@ pub fn answer_messages<RT: Wait, C: Client, P: Protocol<RT>>(
         stream held (C.contents client.new) }
 
     ensures noted { (stream held : List ℕ) → C.remaining client.old ≡ Some stream
-        → C.contents client.old ≡ Some held
-        → OnOk result (NotesAll
+        → C.contents client.old ≡ Some held → OnOk result (NotesAll
         (noting (P.framing (P.rules protocol.old)) (P.is_note (P.rules protocol.old))) P.parting
         stream held (C.contents client.new) (P.notes protocol.old) (P.notes protocol.new)) }
     ensures noted_whole { (stream held : List ℕ) → C.remaining client.old ≡ Some stream
-        → C.contents client.old ≡ Some held → result ≡ Err StreamFault.ReadFault
-        → NotesWhole
-        (noting (P.framing (P.rules protocol.old)) (P.is_note (P.rules protocol.old)))
-        stream held (C.remaining client.new) (C.contents client.new)
-        (P.notes protocol.old) (P.notes protocol.new) }
+        → C.contents client.old ≡ Some held → result ≡ Err StreamFault.ReadFault → NotesWhole
+        (noting (P.framing (P.rules protocol.old)) (P.is_note (P.rules protocol.old))) stream held
+        (C.remaining client.new) (C.contents client.new) (P.notes protocol.old) (P.notes protocol.new) }
     // An answer that wasn't written whole gets no note.
     ensures noted_some { (stream held : List ℕ) → C.remaining client.old ≡ Some stream
-        → C.contents client.old ≡ Some held → result ≡ Err StreamFault.WriteFault
-        → NotesSome
+        → C.contents client.old ≡ Some held → result ≡ Err StreamFault.WriteFault → NotesSome
         (noting (P.framing (P.rules protocol.old)) (P.is_note (P.rules protocol.old))) P.parting
         stream held (C.contents client.new) (P.notes protocol.old) (P.notes protocol.new) }
 

@@ -54,7 +54,7 @@ pub trait Protocol<RT> {
 
     ghost note_on: { Self.Answer → Self.Note };
 
-    // Which note a message and the answer that it is told get.
+    // Which note a message gets that was answered by these bytes.
     ghost is_note: { Self.Rules → List ℕ → List ℕ → Self.Note → Type 0 };
 
     // The most writes that the answer is written by, if each takes all that it is given.

@@ -22,7 +22,7 @@ struct Told {
     steps: String,
 }
 
-/// Explains a request. If an allocation fails, only that is told.
+/// Explains a request. If an allocation fails, the explanation says only this.
 fn explained(rt: &HostRuntime, input: &Input) -> Told {
     let alloc = rt.alloc();
     let explanation = match input {
@@ -45,7 +45,7 @@ fn only(rt: &HostRuntime, explanation: Explanation) -> Told {
     Told { explanation, steps }
 }
 
-/// Writes what is told to standard output, and returns the exit status.
+/// Writes an explanation to standard output, and returns the exit status.
 fn told(rt: &HostRuntime) -> Result<u8, StreamFault> {
     let told = match read_input(rt) {
         Ok(input) => explained(rt, &input),

@@ -64,8 +64,7 @@ where
     ensures noted_whole { (text held : List ℕ) → C.remaining client.old ≡ Some text
         → C.contents client.old ≡ Some held → result.1 ≡ Err StreamFault.ReadFault
         → NotesWholeLines service.limits (J.logs service.journal) text held
-        (C.remaining client.new) (C.contents client.new)
-        (J.noted service.journal) (J.noted result.0) }
+        (C.remaining client.new) (C.contents client.new) (J.noted service.journal) (J.noted result.0) }
     // An answer that wasn't written whole is not noted.
     ensures noted_some { (text held : List ℕ) → C.remaining client.old ≡ Some text
         → C.contents client.old ≡ Some held → result.1 ≡ Err StreamFault.WriteFault
