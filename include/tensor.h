@@ -62,7 +62,7 @@ extern "C" {
 #define TENSOR_NAME_ROOM 16
 
 /* The most bytes that tensor_explain writes about a header of this length, including the 0 at the end. */
-#define TENSOR_TEXT_ROOM(header_length) (1024 + 32 * (size_t)(header_length))
+#define TENSOR_TEXT_ROOM(header_length) (1024 + 8 * (size_t)(header_length))
 
 /* The most numbers of a plan over `tensors` tensors. */
 #define TENSOR_PLAN_ROOM(tensors) (190004 + 9 * (size_t)(tensors))
@@ -187,10 +187,10 @@ int64_t tensor_dims_of_arrays(const uint8_t *header, size_t header_length,
      error 12 ShapeMismatch
      at /expr/1: the operands of "add" must have the same dims; they have [2] and [3]
 
-   If it has none, the first line is `no fault`, and the next lines have the dimensions of the answer and the
-   steps of the evaluation. docs/REQUEST.md says more of the place. Returns how many bytes the lines have, or
-   TENSOR_NO_ROOM if `text` is too short. If an allocation fails, it returns -15. In the last two cases it
-   writes nothing. It reads no values, and allocates as much memory as `count` values take. */
+   If it has none, the first line is `no fault`, and the second line has the dimensions of the answer.
+   docs/REQUEST.md says more of the place. Returns how many bytes the lines have, or TENSOR_NO_ROOM if `text`
+   is too short. If an allocation fails, it returns -15. In the last two cases it writes nothing. It reads no
+   values, and its memory does not grow with `count`. */
 int64_t tensor_explain(const uint8_t *header, size_t header_length, uint64_t count,
                        uint8_t *text, size_t text_length);
 

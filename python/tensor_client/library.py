@@ -23,7 +23,7 @@ from .threads import FEWEST, parts_worth
 
 # Constants of include/tensor.h.
 NO_ROOM, DIMS_ROOM, NAME_ROOM, MOST_PARTS = -100, 9, 16, 256
-TEXT_ROOM, TEXT_ROOM_PER_BYTE = 1024, 32
+TEXT_ROOM, TEXT_ROOM_PER_BYTE = 1024, 8
 # Sizes for a plan, tried in turn: the first is enough for some hundred nodes.
 PLAN_ROOMS = 1 << 14, 1 << 18, 1 << 24
 POINTER, SIZE, NUMBER = ctypes.c_void_p, ctypes.c_size_t, ctypes.c_uint64

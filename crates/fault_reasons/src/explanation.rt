@@ -51,8 +51,8 @@ pub fn explain(alloc: Global, text: &[u8]) -> Explanation
 }
 
 /// Explains a frame of this header and `count` values after it, in the lines in which [`explain`]
-/// explains a text. A fault does not depend on the values, so they are not given: the lines are of
-/// the frame whose values are all zero.
+/// explains a text. A fault does not depend on the values, so they are not given, and no memory is
+/// taken for them.
 pub fn explain_frame(alloc: Global, header: &[u8], count: u64) -> Explanation
     ensures { IsExplained (frame_at header.now (replicate count (pos 0))) result }
 {
@@ -62,7 +62,7 @@ pub fn explain_frame(alloc: Global, header: &[u8], count: u64) -> Explanation
 /// Returns an explanation that was allocated, or the one of an allocation that failed.
 fn or_no_memory(told: Result<Told, AllocError>) -> Explanation
     ensures { (found : Result Asked Located)
-        → IfOk told.entry (λ told. Tells found told.fault told.lines.items)
+        → IfOk told (λ told. Tells found told.fault told.lines.items)
         → IsExplained found result }
 {
     match told {
@@ -86,6 +86,7 @@ pub fn no_memory() -> Explanation
 }
 
 /// Explains a text; fails if an allocation fails.
+#[tactic(auto, using(crate::proofs::Faults::request_at_unread))]
 fn explain_text(alloc: Global, text: &[u8]) -> Result<Told, AllocError>
     ensures { IfOk result (λ told. Tells (request_at text.now) told.fault told.lines.items) }
 {
@@ -97,35 +98,42 @@ fn explain_text(alloc: Global, text: &[u8]) -> Result<Told, AllocError>
             };
             explain_parsed(alloc, source)
         }
-        Err(Fault::NoMemory) => Err(AllocError),
-        Err(fault) => explain_whole(alloc, fault, why_text(alloc, fault, text)?.as_str()),
+        Err(fault) => {
+            if fault == Fault::NoMemory {
+                return Err(AllocError);
+            }
+            let reason = why_text(alloc, fault, text)?;
+            explain_whole(alloc, fault, reason.as_str())
+        }
     }
 }
 
-/// Explains a header with zeroes after it; fails if an allocation fails.
+/// Explains a header with this number of values; fails if an allocation fails.
+#[tactic(auto, using(crate::proofs::Faults::frame_at_read, crate::proofs::Faults::frame_at_refused))]
 fn explain_header(alloc: Global, header: &[u8], count: u64) -> Result<Told, AllocError>
     ensures { IfOk result (λ told.
         Tells (frame_at header.now (replicate count (pos 0))) told.fault told.lines.items) }
 {
     match parse_header(alloc, header, count as usize) {
         Ok(parsed) => {
-            let zeroes = Vec::from_elem(alloc, 0i64, count as usize)?;
             let source = Source {
                 parsed: &parsed,
-                values: Values::Behind(zeroes.as_slice()),
+                values: Values::Unread(count as usize),
             };
             explain_parsed(alloc, source)
         }
-        Err(Fault::NoMemory) => Err(AllocError),
-        Err(fault) => explain_whole(
-            alloc,
-            fault,
-            why_header(alloc, fault, header, count)?.as_str(),
-        ),
+        Err(fault) => {
+            if fault == Fault::NoMemory {
+                return Err(AllocError);
+            }
+            let reason = why_header(alloc, fault, header, count)?;
+            explain_whole(alloc, fault, reason.as_str())
+        }
     }
 }
 
 /// Explains a fault of the whole text or header; fails if an allocation fails.
+#[tactic(auto, using(crate::proofs::Faults::tells_whole))]
 fn explain_whole(alloc: Global, fault: Fault, reason: &str) -> Result<Told, AllocError>
     ensures { (found : Result Asked Located) → found ≡ Err (here fault)
         → IfOk result (λ told. Tells found told.fault told.lines.items) }
@@ -141,7 +149,7 @@ fn explain_whole(alloc: Global, fault: Fault, reason: &str) -> Result<Told, Allo
 /// Explains the JSON value of a text or a header; fails if an allocation fails.
 fn explain_parsed(alloc: Global, source: Source<'_, '_>) -> Result<Told, AllocError>
     ensures { IfOk result (λ told.
-        Tells (asked_from source.values (view source.parsed.now.value)) told.fault
+        Tells (asked_from source.entry.values (view source.entry.parsed.now.value)) told.fault
         told.lines.items) }
 {
     let Some(located) = locate(alloc, source.parsed, source.values) else {

@@ -47,6 +47,23 @@ pub(crate) fn inside_lets(
     way: &[u8],
     operand: &Value,
 ) -> Result<Option<Value>, AllocError> {
+    let lets = lets_on(alloc, expr, way)?;
+    if lets.is_empty() {
+        return Ok(None);
+    }
+    let mut inside = operand.clone()?;
+    for (name, tensor) in lets.iter().rev() {
+        inside = let_of(alloc, name, tensor, inside)?;
+    }
+    Ok(Some(inside))
+}
+
+/// Returns the names and tensors of the `let`s on a way down, the outermost first.
+fn lets_on<'v>(
+    alloc: Global,
+    expr: &'v Value,
+    way: &[u8],
+) -> Result<Vec<(&'v Value, &'v Value)>, AllocError> {
     let mut lets = Vec::new(alloc);
     let mut value = expr;
     for index in way.iter().rev() {
@@ -59,14 +76,7 @@ pub(crate) fn inside_lets(
         lets.push((name, tensor))?;
         value = body;
     }
-    if lets.is_empty() {
-        return Ok(None);
-    }
-    let mut inside = operand.clone()?;
-    for (name, tensor) in lets.iter().rev() {
-        inside = let_of(alloc, name, tensor, inside)?;
-    }
-    Ok(Some(inside))
+    Ok(lets)
 }
 
 /// Returns the `let` of a name, a tensor and a body.

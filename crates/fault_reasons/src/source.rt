@@ -31,8 +31,8 @@ impl<'p, 'a> Source<'p, 'a> {
     /// Returns how many values follow the header; 0 for a text.
     pub(crate) fn count(self) -> usize {
         match self.values {
-            Values::Behind(values) => values.len(),
-            Values::InText | Values::Apart(_) => 0,
+            Values::Unread(count) => count,
+            Values::InText | Values::Behind(_) | Values::Apart(_) => 0,
         }
     }
 }
