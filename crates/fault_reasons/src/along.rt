@@ -1,6 +1,7 @@
 //! Reasons why operands do not fit an operation along one axis. The checks are made in the order of
 //! `tensor_terms`, so the reason is the one of the fault that was found.
 
+use crate::pairs::Operands;
 use crate::sizes::{no_axis, why_illegal};
 use serde_json::Value;
 use std::alloc::{AllocError, Global};
@@ -22,9 +23,12 @@ pub(crate) fn why_take(
     alloc: Global,
     version: u64,
     axis: &Value,
-    dims: &[u64],
-    indices: &[u64],
+    operands: Operands<'_>,
 ) -> Result<Option<String>, AllocError> {
+    let Operands {
+        first: dims,
+        second: indices,
+    } = operands;
     let Some(axis) = axis.as_u64() else {
         return Ok(None);
     };

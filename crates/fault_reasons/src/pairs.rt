@@ -5,14 +5,21 @@ use crate::sizes::{most_products, no_axis, places, sizes_in, why_axes, why_illeg
 use serde_json::Value;
 use std::alloc::{AllocError, Global};
 
+/// The dims of the operands of an operation on two tensors.
+#[derive(Clone, Copy)]
+pub(crate) struct Operands<'d> {
+    pub(crate) first: &'d [u64],
+    pub(crate) second: &'d [u64],
+}
+
 /// Says why two operands can't be concatenated along an axis.
 pub(crate) fn why_concat(
     alloc: Global,
     version: u64,
     axis: &Value,
-    first: &[u64],
-    second: &[u64],
+    operands: Operands<'_>,
 ) -> Result<Option<String>, AllocError> {
+    let Operands { first, second } = operands;
     let Some(axis) = axis.as_u64() else {
         return Ok(None);
     };
@@ -66,9 +73,9 @@ pub(crate) fn why_contract(
     alloc: Global,
     version: u64,
     argument: &Value,
-    first: &[u64],
-    second: &[u64],
+    operands: Operands<'_>,
 ) -> Result<Option<String>, AllocError> {
+    let Operands { first, second } = operands;
     let Some(pairs) = pairs_in(alloc, argument)? else {
         return Ok(None);
     };
@@ -150,9 +157,12 @@ pub(crate) fn why_convolve(
     alloc: Global,
     version: u64,
     argument: &Value,
-    dims: &[u64],
-    kernel: &[u64],
+    operands: Operands<'_>,
 ) -> Result<Option<String>, AllocError> {
+    let Operands {
+        first: dims,
+        second: kernel,
+    } = operands;
     let Some(axes) = sizes_in(alloc, argument)? else {
         return Ok(None);
     };

@@ -6,7 +6,7 @@ use crate::lets::inside_lets;
 use crate::movements::{
     why_broadcast, why_chip, why_lengths, why_order, why_pad, why_reshape, why_slice, why_steps,
 };
-use crate::pairs::{why_concat, why_contract, why_convolve};
+use crate::pairs::{Operands, why_concat, why_contract, why_convolve};
 use crate::sizes::{sizes_in, why_axes};
 use crate::source::Source;
 use expr_reader::{Dims, Fault, read_part};
@@ -29,7 +29,14 @@ pub(crate) fn why_shapes(
 ) -> Result<String, AllocError> {
     let reason = match dims {
         [first] => why_one(alloc, call, first.as_slice())?,
-        [first, second] => why_two(alloc, call, first.as_slice(), second.as_slice())?,
+        [first, second] => why_two(
+            alloc,
+            call,
+            Operands {
+                first: first.as_slice(),
+                second: second.as_slice(),
+            },
+        )?,
         [first, second, third] => Some(format!(in alloc;
             "the operands of \"{}\" must have the same dims; they have {:?}, {:?} and {:?}",
             call.name,
@@ -125,10 +132,10 @@ fn why_sizes(
 fn why_two(
     alloc: Global,
     call: Call<'_>,
-    first: &[u64],
-    second: &[u64],
+    operands: Operands<'_>,
 ) -> Result<Option<String>, AllocError> {
     let Some(argument) = call.arguments.first() else {
+        let Operands { first, second } = operands;
         let reason = format!(in alloc;
             "the operands of \"{}\" must have the same dims; they have {first:?} and {second:?}",
             call.name
@@ -136,9 +143,9 @@ fn why_two(
         return Ok(Some(reason));
     };
     match call.name {
-        "concat" => why_concat(alloc, call.version, argument, first, second),
-        "contract" => why_contract(alloc, call.version, argument, first, second),
-        "take" => why_take(alloc, call.version, argument, first, second),
-        _ => why_convolve(alloc, call.version, argument, first, second),
+        "concat" => why_concat(alloc, call.version, argument, operands),
+        "contract" => why_contract(alloc, call.version, argument, operands),
+        "take" => why_take(alloc, call.version, argument, operands),
+        _ => why_convolve(alloc, call.version, argument, operands),
     }
 }

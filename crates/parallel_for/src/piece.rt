@@ -1,16 +1,12 @@
 //! The items of one leaf, as a worker hands them in. `range_job.rt` makes pieces, and
 //! `collector.rt` takes them.
 
-use pool_barrier::Share;
 use std::alloc::{Allocator, Global};
-use std::snapshot::Snapshot;
 
 /// The items at the places in `[first, last)`, which are one leaf.
-#[derive(Drop)]
+#[derive(Debug, Drop)]
 pub struct Piece<I, A: Allocator = Global> {
     pub first: u64,
     pub last: u64,
     pub items: Vec<I, A>,
-    /// The leaf's share once its notice was given. It takes no memory: contracts alone see it.
-    pub(crate) share: Snapshot<Share>,
 }

@@ -13,7 +13,6 @@ use crate::piece::Piece;
 use pool_barrier::{Barrier, Share};
 use std::alloc::{AllocError, Allocator, Global};
 use std::marker::PhantomData;
-use std::snapshot::Snapshot;
 use worker_pool::{Job, Progress};
 
 /// The context that all jobs of one division share: the kernel, the barrier and the length of a
@@ -78,7 +77,6 @@ impl<K: Kernel + Drop, D: Division, A: Allocator> RangeContext<K, D, A> {
         ensures leaf { IfOk result (λ piece. IsLeaf (K.item_at self.now.kernel) (first, last)
             (piece.first, piece.last) piece.items.items D.block) }
         ensures counted { given_of share.new ≡ given_of share.old + 1 }
-        ensures noticed { IfOk result (λ piece. piece.share.value ≡ share.new) }
     {
         let filled = self.kernel.fill(alloc, first, last);
         self.barrier.notify(share);
@@ -86,7 +84,6 @@ impl<K: Kernel + Drop, D: Division, A: Allocator> RangeContext<K, D, A> {
             first,
             last,
             items: filled?,
-            share: Snapshot::of(&*share),
         })
     }
 }
@@ -126,8 +123,7 @@ impl<K: Kernel + Drop, D: Division, A: Allocator> Job<A> for RangeJob<K, D, A> {
         (λ kid rest. IsHalved (job.first, job.last) (kid.first, kid.last)
         (rest.first, rest.last) D.block)
         (λ piece. IsLeaf (K.item_at context.kernel) (job.first, job.last)
-        (piece.first, piece.last) piece.items.items D.block
-        × (given_of piece.share.value ≡ given_of job.share + 1)) };
+        (piece.first, piece.last) piece.items.items D.block) };
 
     // An abandoned job gives one notice for each block of its range.
     ghost abandons = { λ _ job share.

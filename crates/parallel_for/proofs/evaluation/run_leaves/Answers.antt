@@ -1,4 +1,3 @@
-use denote.Param.Send.{sendable}
 use Rattle.std.proofs.Common.{rules, ◌≡◌, ◌∙◌, sym, arith}
 use Rattle.std.specs.declared.vec.Vec.{Vec}
 use Rattle.run_queue.specs.Bag.{total}
@@ -9,17 +8,13 @@ use Rattle.parallel_for.proofs.Outs.{outs-hold, IsRight-leaf}
 use Rattle.parallel_for.proofs.Covering.{weight-account, weight-halved, weight-leaf, weight-lists}
 use Rattle.parallel_for.proofs.evaluation.run_leaves.Goals as goal
 
--- Pieces may move between threads.
-pub with_counted_root-closed-requires-send-J-Out : goal.with_counted_root-closed-requires-send-J-Out
-with_counted_root-closed-requires-send-J-Out g c κs within = search sendable depth 30
-
 pub returns-clause-right : goal.returns-clause-right
 returns-clause-right g c =
     let item_at = g.K.Kernel.item_at c.args.ctx.now.kernel in
     outs-hold (IsRight item_at)
     (λ (pieces : Vec (Piece g.row.K-Item.Denot g.row.A.Denot) g.row.A.Denot). pieces.items)
     c.in-Ok.closed.outs.items
-    (λ job piece step. IsRight-leaf item_at piece _ _ step.0.0)
+    (λ job piece step. IsRight-leaf item_at piece _ _ step.0)
     c.in-Ok.ensures.account
 
 pub returns-clause-covered : goal.returns-clause-covered
@@ -35,7 +30,7 @@ returns-clause-covered g c = λ h.
     (rest.first, rest.last) block (omega (arith, ctx.cut, ctx.some)) job.order
     kid.order step.0)
     (λ job piece step. weight-leaf h item_at piece.items.items (job.first, job.last)
-    (piece.first, piece.last) block job.order step.0.0)
+    (piece.first, piece.last) block job.order step.0)
     c.args.root _ closed.left.items closed.refused tt c.in-Ok.ensures.none_left none_refused
     c.in-Ok.ensures.account in
     came ∙ sym (weight-lists h closed.outs.items)
