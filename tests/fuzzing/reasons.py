@@ -239,16 +239,15 @@ def contract(version, left, right, pairs):
 def many(version, dims, summed):
     """Says that sums of products are too many. It is the last check."""
     places, each = math.prod(dims), math.prod(summed)
-    allowed = f"at most {version.most_products} are allowed"
-    return f"{places} places of {each} products each are {places * each} products; {allowed}"
+    many = f"{places * each} products; at most {version.most_products} are allowed"
+    return f"{places} places of {each} products each are {many}"
 
 
 def convolve(version, dims, kernel, axes):
     if wrong := axes_in("AXES", axes, dims):
         return wrong
     if len(kernel) != len(axes):
-        has = f"{len(axes)} in all; its dims are {kernel}"
-        return f"the kernel must have one dimension for each of AXES, {has}"
+        return f"the kernel must have one dimension for each of AXES, {len(axes)} in all; its dims are {kernel}"
     for axis, it in zip(axes, kernel):
         if not 1 <= it <= dims[axis]:
             has = f"the kernel has the length {it}; the operand has the length {dims[axis]}"
