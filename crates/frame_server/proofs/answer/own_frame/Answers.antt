@@ -5,9 +5,6 @@ use Rattle.frame_server.specs.private.Answering.{IsTensorFrame}
 use Rattle.frame_server.proofs.Answering.{IsOwnFrame-limit, IsOwnFrame-tensor}
 use Rattle.frame_server.proofs.answer.own_frame.Goals as goal
 
-pub eval_until-requires : goal.eval_until-requires
-eval_until-requires g c = sym c.over_limits.ensures ∙ c.in-None.is
-
 pub returns-in-Some-clause-frame : goal.returns-in-Some-clause-frame
 returns-in-Some-clause-frame g c =
     IsOwnFrame-limit _ _ c.in-Some.fault (asked_under c.args.request.now) c.limit_frame.result (sym c.over_limits.ensures ∙ c.in-Some.is)

@@ -1,11 +1,8 @@
-use Rattle.std.proofs.Common.{ap, sym, refl, inl, inr, ◌∙◌}
+use Rattle.std.proofs.Common.{ap, refl, inl, inr, ◌∙◌}
 use Rattle.expr_reader.specs.Asked.{asked_under}
 use Rattle.tensor_runner.specs.Answer.{tensor_line}
 use Rattle.tensor_runner.proofs.Refused.{IsLineUnder-limit, IsLineUnder-memory, IsLineUnder-stopped, IsLineUnder-tensor}
 use Rattle.tensor_runner.proofs.answer.line_of.Goals as goal
-
-pub eval_until-requires : goal.eval_until-requires
-eval_until-requires g c = sym c.over_limits.ensures ∙ c.in-None.is
 
 pub returns-in-Some : goal.returns-in-Some
 returns-in-Some g c =
