@@ -1,6 +1,6 @@
 //! Uses of the servers of lines and of frames, by clients whose streams and history are known. They
-//! show that the rules of `Client` and of `Journal` can be met, and what the servers' promises say then. A change of
-//! `Client`, `answer_lines` or `answer_frames` touches this crate.
+//! show that the rules of `Client` and of `Journal` can be met, and what the servers' promises say
+//! then. A change of `Client`, `answer_lines` or `answer_frames` touches this crate.
 #![tactic(auto)]
 
 ghost use Rattle.std.specs.Prelude.{◌≡◌, [], Some, IfOk};
