@@ -3,8 +3,8 @@ use Rattle.tensor_runner.proofs.ending.serve_lines.Goals as goal
 
 pub returns : goal.returns
 returns g c =
-    let e = c.answer_lines.ensures in
+    let e = c.answer_lines-ended.ensures in
     record {
-      ended = ends c.answer_lines.result.1 c.ending_of.result _ _ _ _ _ _ _ _ _ _ c.ending_of.ensures e.answered e.broken_off e.cut_short e.read_fault
+      ended = ends c.answer_lines-ended.result.1 c.ending_of.result _ _ _ _ _ _ _ _ _ _ c.ending_of.ensures e.answered e.broken_off e.cut_short e.read_fault
           e.write_fault e.no_failure;
     }
