@@ -9,7 +9,6 @@ use crate::plays::{GivesOne, SetsFlag};
 use crate::rule::{Amount, CutsShare, Law, MOST_NOTICES, Moves, STATE, WORDS};
 use crate::share::{Share, Waiter};
 use crate::view::View;
-use crate::woken::Woken;
 use atomic_table::Table;
 use std::alloc::{AllocError, Allocator, Global};
 use std::marker::Brand;
@@ -33,7 +32,7 @@ pub struct Barrier<A: Allocator = Global> {
 
 impl<A: Allocator> Barrier<A> {
     ghost use Rattle.pool_barrier.specs.Shares.{notices_of, given_of, count_of, IsFresh, IsDone};
-    ghost use Rattle.pool_barrier.specs.Shares.{IsShareOf, IsWaiterOf, HasFoundLast, woken_of};
+    ghost use Rattle.pool_barrier.specs.Shares.{IsShareOf, IsWaiterOf};
 
     /// Returns a barrier of `count` notices, its waiter, and a share of all notices. Too many
     /// notices are reported before an allocation fails.
@@ -70,7 +69,6 @@ impl<A: Allocator> Barrier<A> {
         let (table, mut seat) = Table::of_words(alloc, &words, &count)?;
         let given = table.shared.split_seat::<CutsShare>(&mut seat);
         let share = Share {
-            woken: Woken::nobody(&given),
             seat: given,
             notices: count,
         };
@@ -101,11 +99,7 @@ impl<A: Allocator> Barrier<A> {
     {
         let seat = self.table.shared.split_seat::<Moves<K>>(&mut share.seat);
         share.notices -= k;
-        Share {
-            woken: Woken::nobody(&seat),
-            seat,
-            notices: k,
-        }
+        Share { seat, notices: k }
     }
 
     /// Gives one notice. Wakes the waiter if this was the last notice and the waiter sleeps. Does
@@ -116,7 +110,6 @@ impl<A: Allocator> Barrier<A> {
         ensures of { IsShareOf self.now share.new }
         ensures left { notices_of share.new + 1 ≡ notices_of share.old }
         ensures given { given_of share.new ≡ given_of share.old + 1 }
-        ensures woken { HasFoundLast share.new → woken_of share.new ≡ given_of share.new }
     {
         let found = self
             .table
@@ -124,7 +117,7 @@ impl<A: Allocator> Barrier<A> {
             .fetch_sub::<GivesOne>(&mut share.seat, STATE, NOTICE);
         share.notices -= 1;
         if found == NOTICE + FLAG {
-            share.woken = Woken::waiter(&self.table.shared, &share.seat);
+            self.table.shared.wake_one(STATE);
         }
     }
 

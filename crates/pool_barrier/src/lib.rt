@@ -16,7 +16,6 @@ mod plays;
 mod rule;
 mod share;
 mod view;
-mod woken;
 
 pub use barrier::Barrier;
 pub use fault::BarrierFault;

@@ -1,11 +1,10 @@
 //! The rights to a barrier's two sides: `Share` to notify, and `Waiter` to wait.
 //! `specs/Shares.antt` names what contracts say of them.
 ghost use Rattle.std.specs.Prelude.{◌≡◌, []};
-ghost use Rattle.pool_barrier.specs.Views.{given_in, found_in, phase_in};
+ghost use Rattle.pool_barrier.specs.Views.{given_in, phase_in};
 ghost use Rattle.pool_barrier.specs.declared.view.View.TheVariants.{Gives, Waits};
 
 use crate::view::View;
-use crate::woken::Woken;
 use atomic_table::Seat;
 
 /// The right to give a number of notices of one barrier. It may move between threads.
@@ -15,8 +14,7 @@ use atomic_table::Seat;
 pub struct Share {
     pub(crate) seat: Seat<(), View>,
     pub(crate) notices: u64,
-    pub(crate) woken: Woken,
-    ghost gives: { seat.me.0 ≡ Gives notices (given_in seat.me.0) (found_in seat.me.0) },
+    ghost gives: { seat.me.0 ≡ Gives notices (given_in seat.me.0) },
     ghost none_held: { seat.me.1 ≡ [] },
 }
 
