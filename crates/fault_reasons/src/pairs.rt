@@ -194,21 +194,21 @@ pub(crate) fn why_convolve(
     why_many(alloc, version, slid.as_slice(), kernel)
 }
 
-/// Says that a contraction or a convolution has too many products, if it has. `result` are the dims
-/// of its result, and each value there is a sum over the index lists of `summed`.
+/// Says that a contraction or a convolution has too many products, if it has. Its result has these
+/// dims, and each value there is a sum over the index lists of `summed`.
 fn why_many(
     alloc: Global,
     version: u64,
-    result: &[u64],
+    dims: &[u64],
     summed: &[u64],
 ) -> Result<Option<String>, AllocError> {
-    let (result, each, most) = (places(result), places(summed), most_products(version));
-    let products = result.saturating_mul(each);
+    let (count, each, most) = (places(dims), places(summed), most_products(version));
+    let products = count.saturating_mul(each);
     if products <= most {
         return Ok(None);
     }
     let reason = format!(in alloc;
-        "{result} places of {each} products each are {products} products; at most {most} are allowed"
+        "{count} places of {each} products each are {products} products; at most {most} are allowed"
     )?;
     Ok(Some(reason))
 }
