@@ -1,8 +1,9 @@
--- Tensors that no step left reads may become any others.
-use Rattle.std.proofs.Common.{◌≡◌, ◌≢◌, ℕ, ◌+◌, ◌-◌, ◌<◌, List, ◌++◌, length, set, false}
-use Rattle.std.proofs.Common.{refl, ap, sym, subst, ◌∙◌, arith}
-use Rattle.std.proofs.lemmas.Bool.{true≢false}
-use Rattle.std.proofs.lemmas.List.{length-append, length-set, get_or-set_other, set-append_right}
+-- Tensors that no step left reads may become any others, and become empty ones.
+use Rattle.std.proofs.Common.{◌≡◌, ◌≢◌, ℕ, ◌+◌, ◌-◌, ◌<◌, ◌≤◌, List, [], ◌++◌, length, set}
+use Rattle.std.proofs.Common.{false, refl, ap, sym, subst, ◌∙◌, inl, inr, arith}
+use Rattle.std.proofs.lemmas.Bool.{true≢false, cases_eq}
+use Rattle.std.proofs.lemmas.List.{length-append, length-set, get_or-set_other, get_or-set_same}
+use Rattle.std.proofs.lemmas.List.{set-append_right}
 use Rattle.tensor_ops.specs.Contents.{Contents, input_of, nothing}
 use Rattle.tensor_reduce.specs.private.Held.{AreHeldFor, AreHeld}
 use Rattle.tensor_reduce.specs.private.Readers.{are_reading}
@@ -43,3 +44,28 @@ AreHeld-set left whole inputs items n k x place before unread are =
         are.1.1,
       ),
     )
+
+-- the tensors from a place on, but the last, hold no values
+abbrev pub AreEmptyFrom : ℕ → List Contents → Type 0
+AreEmptyFrom place items =
+    (p : ℕ) → place ≤ p → p + 1 < length items → (input_of items p).values ≡ []
+
+-- one more of them
+pub empty-more : (items : List Contents) (place : ℕ) → AreEmptyFrom (place + 1) items
+    → (input_of items place).values ≡ [] → AreEmptyFrom place items
+empty-more items place empty here p from below =
+    elim (cases_eq p place) [
+      | inl same ↦ ap (λ n. (input_of items n).values) same ∙ here
+      | inr other ↦ empty p (omega (arith, other)) below
+    ]
+
+-- one more, where an empty tensor takes its place
+pub empty-set : (items : List Contents) (place : ℕ) (x : Contents) → place < length items
+    → x.values ≡ [] → AreEmptyFrom (place + 1) items → AreEmptyFrom place (set items place x)
+empty-set items place x inside without empty =
+    empty-more (set items place x) place
+    (λ p from below.
+    let other : p ≢ place = omega arith in
+    ap (λ t. t.values) (get_or-set_other items place p x nothing other)
+    ∙ empty p from (omega (arith, length-set items place x)))
+    (ap (λ t. t.values) (get_or-set_same items place x nothing inside) ∙ without)

@@ -1,10 +1,10 @@
 //! Frees tensors that no step left reads. An empty tensor takes the place of each, so that the
 //! others keep their numbers. What must still be held is defined in specs/private/Held.
 
-ghost use Rattle.std.specs.Prelude.{◌≡◌, ◌+◌, ◌<◌, ◌≤◌, ◌++◌, List, length, slice_set};
+ghost use Rattle.std.specs.Prelude.{◌≡◌, ◌+◌, ◌<◌, ◌≤◌, ◌^◌, ◌++◌, List, [], length, slice_set};
 ghost use Rattle.std.specs.Prelude.{vec_capacity};
 ghost use Rattle.tensor_ops.specs.Contents.{Contents};
-ghost use Rattle.tensor_reduce.specs.private.Held.{AreHeld, HasMore};
+ghost use Rattle.tensor_reduce.specs.private.Held.{AreHeld, AreFreed, HasMore};
 
 use crate::cutting::NUMBERS;
 use crate::schedule::readers::are_reading;
@@ -35,6 +35,8 @@ pub(crate) fn free_unread(
     ensures held { (whole : List Contents)
         → AreHeld left.now whole (inputs.now.tensors ++ tensors.old.items)
         → AreHeld left.now whole (inputs.now.tensors ++ tensors.new.items) }
+    ensures freed { length inputs.now.tensors + length tensors.old.items ≤ 2 ^ 32
+        → AreFreed left.now inputs.now.tensors tensors.new.items }
     ensures len { length tensors.new.items ≡ length tensors.old.items }
     ensures capacity { vec_capacity tensors.new ≡ vec_capacity tensors.old }
 {
@@ -61,7 +63,9 @@ fn put(tensors: &mut Vec<Tensor<'static>>, place: usize, tensor: Tensor<'static>
 }
 
 /// Returns a tensor that holds no memory.
-fn freed(alloc: Global) -> Tensor<'static> {
+fn freed(alloc: Global) -> Tensor<'static>
+    ensures { result.values ≡ [] }
+{
     let Ok(dims) = Dims::new(&[0]) else {
         unreachable!()
     };
