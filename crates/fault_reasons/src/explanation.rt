@@ -133,7 +133,6 @@ fn explain_header(alloc: Global, header: &[u8], count: u64) -> Result<Told, Allo
 }
 
 /// Explains a fault of the whole text or header; fails if an allocation fails.
-#[tactic(auto, using(crate::proofs::Faults::tells_whole))]
 fn explain_whole(alloc: Global, fault: Fault, reason: &str) -> Result<Told, AllocError>
     ensures { (found : Result Asked Located) → found ≡ Err (here fault)
         → IfOk result (λ told. Tells found told.fault told.lines.items) }
