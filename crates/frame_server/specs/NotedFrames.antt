@@ -35,13 +35,12 @@ read_under limits bytes =
     if is_longer limits bytes then Err TooLong else request_in (frame_in bytes)
 
 -- the note on a frame and the frame that answers it. `logs` says whether the journal notes steps.
-pub record IsEntry (limits : Limits) (logs : Bool) (bytes answer : List ℕ) (entry : Entry)
+pub record IsEntry (limits : Limits) (logs : Bool) (frame answer : List ℕ) (entry : Entry)
     : Type 0 where
-  pub bytes : entry.bytes ≡ length bytes
+  pub bytes : entry.bytes ≡ length frame
   pub answered : entry.answered ≡ length answer
   pub says : Says answer entry.fault
-  pub has : HasSteps limits logs (read_under limits bytes)
-      entry.fault entry.steps
+  pub has : HasSteps limits logs (read_under limits frame) entry.fault entry.steps
 
 -- frames as messages that are answered under limits, with an entry for each answer. `logs` says
 -- whether the journal notes steps.
