@@ -1,6 +1,9 @@
-use Rattle.std.proofs.Common.{inl, inr, refl}
+use Rattle.std.proofs.Common.{◌≡◌, inl, inr, refl}
+use Rattle.std.proofs.lemmas.Result.{IfErr-at_err}
 use Rattle.expr_reader.specs.Arrays.{arrays_under}
 use Rattle.prepared_expressions.specs.Filled.{prepared_under}
+use Rattle.prepared_expressions.specs.declared.refusal.Refusal.TheVariants as refusal
+use Rattle.tensor_c.specs.Plan.{refusal_result}
 use Rattle.tensor_c.proofs.Plans.{dealt-err}
 use Rattle.tensor_c.proofs.plan.put_planned.Goals as goal
 
@@ -17,7 +20,11 @@ returns-in-Err-clause-call c = λ p plan is.
     ]
 
 pub returns-in-Err-clause-no_start : goal.returns-in-Err-clause-no_start
-returns-in-Err-clause-no_start c = λ none. rw (c.result_of_refusal.ensures, c.in-Err.ensures.no_start none) refl
+returns-in-Err-clause-no_start c = λ none.
+    let no_record : c.result_of_refusal.result ≡ refusal_result refusal.NoRecord =
+    IfErr-at_err (λ f. c.result_of_refusal.result ≡ refusal_result f) (c.in-Err.ensures.no_start none)
+    c.result_of_refusal.ensures in
+    rw no_record refl
 
 pub returns-in-Ok-clause-no_start : goal.returns-in-Ok-clause-no_start
-returns-in-Ok-clause-no_start c = λ none. absurd (c.in-Ok.ensures.no_start none)
+returns-in-Ok-clause-no_start c = λ none. absurd (IfErr-at_err (λ f. ⊥) (c.in-Ok.ensures.no_start none) tt)
