@@ -45,8 +45,8 @@ fn only(rt: &HostRuntime, explanation: Explanation) -> Told {
     Told { explanation, steps }
 }
 
-/// Writes an explanation to standard output, and returns the exit status.
-fn told(rt: &HostRuntime) -> Result<u8, StreamFault> {
+/// Writes an explanation of standard input to standard output, and returns the exit status.
+fn explain_input(rt: &HostRuntime) -> Result<u8, StreamFault> {
     let told = match read_input(rt) {
         Ok(input) => explained(rt, &input),
         Err(Unread::NoMemory) => only(rt, no_memory()),
@@ -61,7 +61,7 @@ fn told(rt: &HostRuntime) -> Result<u8, StreamFault> {
 }
 
 fn main(rt: HostRuntime) -> io::Result<ExitCode> {
-    match told(&rt) {
+    match explain_input(&rt) {
         Ok(status) => Ok(ExitCode::from(status)),
         Err(fault) => {
             let ending = ending_of(Err(fault));
