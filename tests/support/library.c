@@ -534,8 +534,10 @@ static void check_explanation(const struct frame *it)
     } else if (strlen((char *)text) != (size_t)length || text[length - 1] != '\n'
                || strncmp((char *)text, first, strlen(first))) {
         fail("another explanation");
-    } else if (!was_refused && explained(it, text, (size_t)length) != TENSOR_NO_ROOM) {
-        fail("an explanation in too little room");
+    } else if (!was_refused) {
+        length = explained(it, text, (size_t)length);
+        if (length != TENSOR_NO_ROOM && (length != -15 || !was_refused))
+            fail("an explanation in too little room");
     }
     __real_free(text);
 }
