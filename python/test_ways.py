@@ -14,7 +14,7 @@ import unittest.mock
 import tensor_client as client
 from tensor_client import Expr, tensor
 from tensor_client.explaining import explain
-from tensor_client.finding import TOP, Program, program_of
+from tensor_client.finding import TOP, Program, built, program_of
 from tensor_client.library import Library, library_named, library_of
 from tensor_client.requests import Settings, framed
 from asking import LINES, ONE, REFERENCE, WAYS, referring
