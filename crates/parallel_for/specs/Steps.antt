@@ -1,7 +1,7 @@
 -- What a step of a range job gives.
 use Rattle.std.specs.Prelude.{◌≡◌, ℕ, ◌+◌, ◌<◌, ◌≤◌, ◌-◌, List}
 use Rattle.pool_barrier.specs.declared.share.Share.{Share}
-use Rattle.pool_barrier.specs.Shares.{notices_of, given_of}
+use Rattle.pool_barrier.specs.Shares.{notices_of, given_of, share_id}
 use Rattle.worker_pool.specs.declared.job.Progress.{Progress}
 use Rattle.worker_pool.specs.declared.job.Progress.TheVariants.{Fork, Done}
 use Rattle.parallel_for.specs.Leaves.{Range, middle}
@@ -28,6 +28,11 @@ pub record IsLeaf {I : Type 0} (item_at : ℕ → I) (whole piece : Range) (item
   pub first : piece.0 ≡ whole.0
   pub last : piece.1 ≡ whole.1
   pub filled : AreItems item_at whole.0 whole.1 items
+
+-- a share has given one more notice of its barrier
+pub record GaveOne (before after : Share) : Type 0 where
+  pub of : share_id after ≡ share_id before
+  pub given : given_of after ≡ given_of before + 1
 
 -- a share has given `count` more notices, and has none left
 pub record GaveAll (count : ℕ) (before after : Share) : Type 0 where

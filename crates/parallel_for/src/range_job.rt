@@ -3,8 +3,9 @@
 ghost use Rattle.std.specs.Prelude.{◌≡◌, ◌≤◌, ◌<◌, ◌-◌, ◌+◌, ℕ, IfOk};
 ghost use Rattle.pool_barrier.specs.Shares.{share_id, barrier_id, notices_of, given_of};
 ghost use Rattle.pool_barrier.specs.Shares.{IsShareOf};
+ghost use Rattle.parallel_for.specs.Items.{AreItems};
 ghost use Rattle.parallel_for.specs.Leaves.{blocks_of};
-ghost use Rattle.parallel_for.specs.Steps.{EitherWay, GaveAll, IsHalved, IsLeaf};
+ghost use Rattle.parallel_for.specs.Steps.{EitherWay, GaveAll, GaveOne, IsHalved, IsLeaf};
 
 use crate::division::Division;
 use crate::halving::{blocks, halve};
@@ -60,31 +61,26 @@ impl<K: Kernel + Drop, D: Division, A: Allocator> RangeContext<K, D, A> {
         }
     }
 
-    /// Computes a leaf, and gives its notice. The notice is given even if the leaf ran out of
-    /// memory, so that the caller's wait ends.
+    /// Returns the items of a leaf, and gives its notice. The notice is given even if the leaf ran
+    /// out of memory, so that the caller's wait ends.
     fn leaf(
         &self,
         alloc: A,
         first: u64,
         last: u64,
         share: &mut Share,
-    ) -> Result<Piece<K::Item, A>, AllocError>
+    ) -> Result<Vec<K::Item, A>, AllocError>
         requires order { first ≤ last }
         requires inside { last ≤ D.size }
-        requires short { last - first ≤ D.block }
         requires of { IsShareOf self.now.barrier share.old }
         requires notice { 0 < notices_of share.old }
-        ensures leaf { IfOk result (λ piece. IsLeaf (K.item_at self.now.kernel) (first, last)
-            (piece.first, piece.last) piece.items.items D.block) }
-        ensures counted { given_of share.new ≡ given_of share.old + 1 }
+        ensures items { IfOk result (λ items.
+            AreItems (K.item_at self.now.kernel) first last items.items) }
+        ensures counted { GaveOne share.old share.new }
     {
         let filled = self.kernel.fill(alloc, first, last);
         self.barrier.notify(share);
-        Ok(Piece {
-            first,
-            last,
-            items: filled?,
-        })
+        filled
     }
 }
 
@@ -123,7 +119,7 @@ impl<K: Kernel + Drop, D: Division, A: Allocator> Job<A> for RangeJob<K, D, A> {
         (λ kid rest. IsHalved (job.first, job.last) (kid.first, kid.last)
         (rest.first, rest.last) D.block)
         (λ piece. IsLeaf (K.item_at context.kernel) (job.first, job.last)
-        (piece.first, piece.last) piece.items.items D.block) };
+        (piece.first, piece.last) piece.items.items D.block × GaveOne job.share piece.share) };
 
     // An abandoned job gives one notice for each block of its range.
     ghost abandons = { λ _ job share.
@@ -145,7 +141,13 @@ impl<K: Kernel + Drop, D: Division, A: Allocator> Job<A> for RangeJob<K, D, A> {
             of: _,
         } = self;
         let Some(mid) = halve(first, last, ctx.block) else {
-            return Ok(Progress::Done(ctx.leaf(alloc, first, last, &mut share)?));
+            let items = ctx.leaf(alloc, first, last, &mut share)?;
+            return Ok(Progress::Done(Piece {
+                first,
+                last,
+                items,
+                share,
+            }));
         };
         let upper = ctx.barrier.split(&mut share, blocks(last - mid, ctx.block));
         Ok(Progress::Fork {

@@ -89,22 +89,22 @@ divides count id v left right notices given waiter flag left_waits right_waits s
 -- the first seat hands all its notices to the first share
 pub cut_keeps : (count id n : ℕ) (v : View)
     → v ≡ Whole n
-    → Splits (IsCounted count) id v (Waits Fresh) (Gives (notices_in v) 0)
+    → Splits (IsCounted count) id v (Waits Fresh) (Gives (notices_in v) 0 0)
 cut_keeps count id n v is =
-    let cut = divides count id (Whole n) (Waits Fresh) (Gives n 0) (omega arith) refl refl refl
+    let cut = divides count id (Whole n) (Waits Fresh) (Gives n 0 0) (omega arith) refl refl refl
     (λ e. cc) (λ e. cc) in
-    subst (λ (u : View). Splits (IsCounted count) id u (Waits Fresh) (Gives (notices_in u) 0))
+    subst (λ (u : View). Splits (IsCounted count) id u (Waits Fresh) (Gives (notices_in u) 0 0))
     (sym is) cut
 
 -- a share hands some of its notices to a new one
-pub split_keeps : (count id k amount n g : ℕ) (v : View)
+pub split_keeps : (count id k amount n g f : ℕ) (v : View)
     → amount ≡ k
-    → v ≡ Gives n g
+    → v ≡ Gives n g f
     → k ≤ notices_in v
     → Splits (IsCounted count) id v (after_split amount v) (split_off amount v)
-split_keeps count id k amount n g v same is room =
+split_keeps count id k amount n g f v same is room =
     let fits : k ≤ n = subst (λ (u : View). k ≤ notices_in u) is room in
-    let split = divides count id (Gives n g) (Gives (n - k) g) (Gives k 0)
+    let split = divides count id (Gives n g f) (Gives (n - k) g f) (Gives k 0 0)
     (omega arith) (omega arith) refl refl (λ e. cc) (λ e. cc) in
     subst (λ (a : ℕ). Splits (IsCounted count) id v (after_split a v) (split_off a v)) (sym same)
     (subst (λ (u : View). Splits (IsCounted count) id u (after_split k u) (split_off k u))
@@ -116,11 +116,11 @@ MayGive count slots id me =
     Allows (IsCounted count) slots id me STATE (λ word. (word + (2 ^ 64 - 2)) % 2 ^ 64)
     (gives_one (step slots STATE 2 0 none) me)
 
-gives : (count slots id n g : ℕ) → 0 < n → MayGive count slots id (Gives n g, [])
-gives count slots id n g some_left s rule _ at small =
-    let v = Gives n g in
-    let w = Gives (n - 1) (g + 1) in
+gives : (count slots id n g f : ℕ) → 0 < n → MayGive count slots id (Gives n g f, [])
+gives count slots id n g f some_left s rule _ at small =
+    let v = Gives n g f in
     let found = slice_index s.words STATE in
+    let w = Gives (n - 1) (g + 1) found in
     let word = rule.word in
     let notices = total-set notices_in s.views id v w at in
     let flags = total-set flag_in s.views id v w at in
@@ -134,19 +134,19 @@ gives count slots id n g some_left s rule _ at small =
     )
 
 -- a share with a notice left gives one
-pub notify_keeps : (count slots id n g : ℕ) (me : Sat)
-    → me.0 ≡ Gives n g
+pub notify_keeps : (count slots id n g f : ℕ) (me : Sat)
+    → me.0 ≡ Gives n g f
     → me.1 ≡ []
     → 0 < notices_in me.0
     → MayGive count slots id me
-notify_keeps count slots id n g me view slotless some_left =
+notify_keeps count slots id n g f me view slotless some_left =
     let left : 0 < n = subst (λ (u : View). 0 < notices_in u) view some_left in
     subst (λ (m : Sat). MayGive count slots id m) (λ i. (sym view i, sym slotless i))
-    (gives count slots id n g left)
+    (gives count slots id n g f left)
 
 flag-le-waiter : (v : View) → flag_in v ≤ waiter_in v
 flag-le-waiter (Whole n) = omega arith
-flag-le-waiter (Gives n g) = omega arith
+flag-le-waiter (Gives n g f) = omega arith
 flag-le-waiter (Waits Fresh) = omega arith
 flag-le-waiter (Waits Flagged) = omega arith
 flag-le-waiter (Waits Done) = omega arith

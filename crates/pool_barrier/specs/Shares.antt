@@ -6,7 +6,8 @@ use Rattle.pool_barrier.specs.declared.view.View.TheVariants.{Waits}
 use Rattle.pool_barrier.specs.declared.share.Share.{Share}
 use Rattle.pool_barrier.specs.declared.share.Waiter.{Waiter}
 use Rattle.pool_barrier.specs.declared.barrier.Barrier.{Barrier}
-use Rattle.pool_barrier.specs.Views.{notices_in, given_in}
+use Rattle.pool_barrier.specs.declared.woken.Woken.{Woken}
+use Rattle.pool_barrier.specs.Views.{notices_in, given_in, found_in}
 
 -- the notices that a share has left to give
 abbrev pub notices_of : Share → ℕ
@@ -15,6 +16,15 @@ notices_of share = notices_in share.seat.me.0
 -- the notices that a share has given
 abbrev pub given_of : Share → ℕ
 given_of share = given_in share.seat.me.0
+
+-- the word that the share's last notice found says that one notice was left, and that the waiter had
+-- set its flag
+abbrev pub HasFoundLast : Share → Type 0
+HasFoundLast share = found_in share.seat.me.0 ≡ 3
+
+-- the share woke the waiter after its last notice
+abbrev pub HasWoken : Share → Woken → Type 0
+HasWoken share woken = woken.seat.value ≡ share.seat
 
 -- the barrier to which the share belongs
 abbrev pub share_id : Share → TableId

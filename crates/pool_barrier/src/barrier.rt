@@ -1,6 +1,6 @@
 //! `Barrier`: its calls, each a step on one word. `specs/Shares.antt` names what their contracts
 //! say, and `notification.rt` forwards to them.
-ghost use Rattle.std.specs.Prelude.{◌≡◌, ◌+◌, ◌<◌, ◌≤◌, ◌↔◌, IfOk, IsErrOf};
+ghost use Rattle.std.specs.Prelude.{◌≡◌, ◌+◌, ◌<◌, ◌≤◌, ◌↔◌, IfOk, IsErrOf, IsSomeAnd};
 ghost use Rattle.pool_barrier.specs.declared.rule.TheConstants.{WORDS};
 ghost use Rattle.pool_barrier.specs.Limits.{most_notices};
 
@@ -9,6 +9,7 @@ use crate::plays::{GivesOne, SetsFlag};
 use crate::rule::{Amount, CutsShare, Law, MOST_NOTICES, Moves, STATE, WORDS};
 use crate::share::{Share, Waiter};
 use crate::view::View;
+use crate::woken::Woken;
 use atomic_table::Table;
 use std::alloc::{AllocError, Allocator, Global};
 use std::marker::Brand;
@@ -32,7 +33,7 @@ pub struct Barrier<A: Allocator = Global> {
 
 impl<A: Allocator> Barrier<A> {
     ghost use Rattle.pool_barrier.specs.Shares.{notices_of, given_of, count_of, IsFresh, IsDone};
-    ghost use Rattle.pool_barrier.specs.Shares.{IsShareOf, IsWaiterOf};
+    ghost use Rattle.pool_barrier.specs.Shares.{IsShareOf, IsWaiterOf, HasFoundLast, HasWoken};
 
     /// Returns a barrier of `count` notices, its waiter, and a share of all notices. Too many
     /// notices are reported before an allocation fails.
@@ -102,23 +103,23 @@ impl<A: Allocator> Barrier<A> {
         Share { seat, notices: k }
     }
 
-    /// Gives one notice. Wakes the waiter if this was the last notice and the waiter sleeps. Does
-    /// not wait.
-    pub fn notify(&self, share: &mut Share)
+    /// Gives one notice. If this was the last notice and the waiter may sleep, wakes the waiter, and
+    /// returns a token of this. Does not wait.
+    pub fn notify(&self, share: &mut Share) -> Option<Woken>
         requires of { IsShareOf self.now share.old }
         requires left { 0 < notices_of share.old }
         ensures of { IsShareOf self.now share.new }
         ensures left { notices_of share.new + 1 ≡ notices_of share.old }
         ensures given { given_of share.new ≡ given_of share.old + 1 }
+        ensures woken { HasFoundLast share.new → IsSomeAnd result (HasWoken share.new) }
     {
-        let found = self
-            .table
-            .shared
-            .fetch_sub::<GivesOne>(&mut share.seat, STATE, NOTICE);
+        let shared = &self.table.shared;
+        let found = shared.fetch_sub::<GivesOne>(&mut share.seat, STATE, NOTICE);
         share.notices -= 1;
-        if found == NOTICE + FLAG {
-            self.table.shared.wake_one(STATE);
+        if found != NOTICE + FLAG {
+            return None;
         }
+        Some(Woken::waiter(shared, &share.seat))
     }
 
     /// Waits until no share of the barrier has a notice left. It may be called again, and then

@@ -16,6 +16,7 @@ mod plays;
 mod rule;
 mod share;
 mod view;
+mod woken;
 
 pub use barrier::Barrier;
 pub use fault::BarrierFault;
@@ -24,3 +25,4 @@ pub use notification::Notification;
 pub use rule::{Law, MOST_NOTICES};
 pub use share::{Share, Waiter};
 pub use view::{Phase, View};
+pub use woken::Woken;

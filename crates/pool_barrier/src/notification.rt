@@ -1,8 +1,9 @@
 //! `Notification`: a barrier of one notice. Each call is a call of `barrier.rt`.
-ghost use Rattle.std.specs.Prelude.{◌≡◌, ◌+◌, ◌<◌, IfOk};
+ghost use Rattle.std.specs.Prelude.{◌≡◌, ◌+◌, ◌<◌, IfOk, IsSomeAnd};
 
 use crate::barrier::Barrier;
 use crate::share::{Share, Waiter};
+use crate::woken::Woken;
 use std::alloc::{AllocError, Allocator, Global};
 use std::sync::Wait;
 
@@ -14,7 +15,7 @@ pub struct Notification<A: Allocator = Global> {
 
 impl<A: Allocator> Notification<A> {
     ghost use Rattle.pool_barrier.specs.Shares.{notices_of, given_of, count_of, IsFresh, IsDone};
-    ghost use Rattle.pool_barrier.specs.Shares.{IsShareOf, IsWaiterOf};
+    ghost use Rattle.pool_barrier.specs.Shares.{IsShareOf, IsWaiterOf, HasFoundLast, HasWoken};
     ghost use Rattle.pool_barrier.specs.Notifications.{barrier_of};
 
     /// Returns a notification, its waiter, and a share that has the one notice. Fails only if an
@@ -31,15 +32,16 @@ impl<A: Allocator> Notification<A> {
         Ok((Notification { barrier }, waiter, share))
     }
 
-    /// Gives the notice, and wakes the waiter if it sleeps.
-    pub fn notify(&self, share: &mut Share)
+    /// Gives the notice. If the waiter may sleep, wakes it, and returns a token of this.
+    pub fn notify(&self, share: &mut Share) -> Option<Woken>
         requires of { IsShareOf (barrier_of self.now) share.old }
         requires left { 0 < notices_of share.old }
         ensures of { IsShareOf (barrier_of self.now) share.new }
         ensures left { notices_of share.new + 1 ≡ notices_of share.old }
         ensures given { given_of share.new ≡ given_of share.old + 1 }
+        ensures woken { HasFoundLast share.new → IsSomeAnd result (HasWoken share.new) }
     {
-        self.barrier.notify(share);
+        self.barrier.notify(share)
     }
 
     /// Waits until the notice was given. It may be called again, and then returns at once.

@@ -1,7 +1,7 @@
 //! The rights to a barrier's two sides: `Share` to notify, and `Waiter` to wait.
 //! `specs/Shares.antt` names what contracts say of them.
 ghost use Rattle.std.specs.Prelude.{◌≡◌, []};
-ghost use Rattle.pool_barrier.specs.Views.{given_in, phase_in};
+ghost use Rattle.pool_barrier.specs.Views.{given_in, found_in, phase_in};
 ghost use Rattle.pool_barrier.specs.declared.view.View.TheVariants.{Gives, Waits};
 
 use crate::view::View;
@@ -14,7 +14,7 @@ use atomic_table::Seat;
 pub struct Share {
     pub(crate) seat: Seat<(), View>,
     pub(crate) notices: u64,
-    ghost gives: { seat.me.0 ≡ Gives notices (given_in seat.me.0) },
+    ghost gives: { seat.me.0 ≡ Gives notices (given_in seat.me.0) (found_in seat.me.0) },
     ghost none_held: { seat.me.1 ≡ [] },
 }
 

@@ -15,8 +15,13 @@ pub enum Phase {
 pub enum View {
     /// The first seat: all notices and the right to wait, before either is handed out.
     Whole(u64),
-    /// A share: how many notices it has left to give, and how many it has given.
-    Gives { notices: u64, given: u64 },
+    /// A share: how many notices it has left to give, how many it has given, and the word that its
+    /// last notice found, or 0.
+    Gives {
+        notices: u64,
+        given: u64,
+        found: u64,
+    },
     /// The waiter, and how far it has come.
     Waits(Phase),
 }

@@ -5,7 +5,7 @@ use Rattle.std.specs.List.{AllZip}
 use Rattle.std.proofs.lemmas.Bool.{true≢false}
 use Rattle.std.proofs.lemmas.List.{append-nil}
 use Rattle.std.proofs.lemmas.List.Elements.{All-nil, All-cons}
-use Rattle.std.proofs.lemmas.List.Sums.{sum_by_push, count_by-le-length}
+use Rattle.std.proofs.lemmas.List.Sums.{sum_by_push}
 use Rattle.worker_pool.specs.declared.opening.start.home.Home.{Home}
 use Rattle.worker_pool.specs.declared.opening.start.home.Start.TheVariants.{Joined, NotAsked}
 use Rattle.worker_pool.specs.Starts.{was_joined, was_asked, joined_of, AsksFirst, ComesHome}
@@ -56,10 +56,6 @@ asks-all starts homes few asked = record {
   were_asked = asked;
   were_not = All-nil _;
 }
-
--- at most as many workers were joined as came home
-pub joined-few : {X : Type 0} (homes : List (Home X)) → joined_of homes ≤ length homes
-joined-few homes = count_by-le-length (λ at. was_joined at.start) homes
 
 -- those that came home are at work
 pub home-at_work : {S X : Type 0} (is_at_work : S → X → Type 0) (has_ended : S → X → X → Type 0)

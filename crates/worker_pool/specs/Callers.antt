@@ -9,17 +9,17 @@ use Rattle.worker_pool.specs.Accounts.{Account}
 use Rattle.worker_pool.specs.Seats.{IsOpener}
 use Rattle.worker_pool.specs.Laws.{law_of}
 use Rattle.worker_pool.specs.Stops.{IsStopSeatOf, last_word}
-use Rattle.worker_pool.specs.Stops.{cancelled_word, closing_word}
+use Rattle.worker_pool.specs.Stops.{cancelled_word}
 use Rattle.worker_pool.specs.Told.{IsSilent}
 
 module _ {J A W R L C O N T S K : Type 0} where
   -- the jobs that were scheduled through the caller, in order
   abbrev pub roots_of : Caller J A W R L C O N T S K → List J
-  roots_of caller = caller.stop_seat.me.0.jobs
+  roots_of caller = caller.opener.stop_seat.me.0.jobs
 
   -- how many workers the caller's pool has started
   abbrev pub started_of : Caller J A W R L C O N T S K → ℕ
-  started_of caller = caller.seats.started
+  started_of caller = caller.opener.seats.started
 
   -- how many workers the caller's pool was set up with
   abbrev pub workers_of : Caller J A W R L C O N T S K → ℕ
@@ -27,7 +27,7 @@ module _ {J A W R L C O N T S K : Type 0} where
 
   -- what was last stored in the stop word through the caller
   abbrev pub stop_of : Caller J A W R L C O N T S K → ℕ
-  stop_of caller = caller.stop_seat.me.0.stored
+  stop_of caller = caller.opener.stop_seat.me.0.stored
 
   -- the pool was cancelled through the caller
   abbrev pub IsCancelled : Caller J A W R L C O N T S K → Type 0
@@ -46,33 +46,19 @@ module _ {J A W R L C O N T S K : Type 0} where
     -- wake. It has the account of the jobs that were scheduled: they came in, some jobs were passed
     -- on, and the others ran.
     pub record IsCaller (caller : Caller J A W R L C O N T S K) : Type 0 where
-      pub seats : IsOpener row point caller.queue.now caller.seats.row caller.seats.waker
-      pub stop_seat : IsStopSeatOf caller.stop.now caller.stop_seat
-      pub silent : IsSilent caller.seats caller.stop_seat caller.told
+      pub seats : IsOpener row point caller.queue.now caller.opener.seats.row
+          caller.opener.seats.waker
+      pub stop_seat : IsStopSeatOf caller.stop.now caller.opener.stop_seat
+      pub silent : IsSilent caller.opener.seats caller.opener.stop_seat caller.opener.told
       pub few : started_of caller ≤ workers_of caller
-      pub stop : stop_of caller ≡ last_word caller.cancelled
-      pub took_none : row.keeps_accounts → row.takes_of caller.seats.row ≡ []
+      pub stop : stop_of caller ≡ last_word caller.opener.cancelled
+      pub took_none : row.keeps_accounts → row.takes_of caller.opener.seats.row ≡ []
       pub account : Account row.keeps_accounts
-          (law_of law caller.ctx.now)
-          (roots_of caller) (row.puts_of caller.seats.row) (list.items_of caller.outs) []
-          caller.refused
+          (law_of law caller.ctx.now) (roots_of caller)
+          (row.puts_of caller.opener.seats.row) (list.items_of caller.opener.outs) []
+          caller.opener.refused
 
     -- the caller is still a caller, of the same pool
     pub record StaysCaller (caller then : Caller J A W R L C O N T S K) : Type 0 where
       pub still : IsCaller then
       pub same : IsSamePool caller then
-
-  -- The pool is closing, and the workers that wait were woken. The scheduled jobs are as before,
-  -- and so is what became of them.
-  pub record Closes (row : rows.Ghosts R J A S) (point : wait_point.Ghosts W A T)
-      (caller then : Caller J A W R L C O N T S K) : Type 0 where
-    pub same : IsSamePool caller then
-    pub seats : IsOpener row point then.queue.now then.seats.row then.seats.waker
-    pub stop_seat : IsStopSeatOf then.stop.now then.stop_seat
-    pub silent : IsSilent then.seats then.stop_seat then.told
-    pub stop : stop_of then ≡ closing_word caller.cancelled
-    pub cancelled : then.cancelled ≡ caller.cancelled
-    pub roots : roots_of then ≡ roots_of caller
-    pub row_seat : then.seats.row ≡ caller.seats.row
-    pub outs : then.outs ≡ caller.outs
-    pub refused : then.refused ≡ caller.refused

@@ -40,9 +40,10 @@ pub record HasClosed {J A W R L C O N T S K : Type 0} (row : rows.Ghosts R J A S
     : Type 0 where
   pub no_roots : roots_of before ≡ []
   pub workers : before.queue.now.workers ≡ size
-  pub started : before.seats.started ≤ starts
+  pub started : before.opener.seats.started ≤ starts
   pub stop : stop_of before ≡ open_word
   pub none_left : ¬ IsCancelled after → left ≡ []
   pub handed_back : IsCancelled after → IsHandedBack row.keeps_accounts law
-      (row.puts_of after.seats.row) (list.items_of after.outs) after.refused outs left refused
+      (row.puts_of after.opener.seats.row) (list.items_of after.opener.outs) after.opener.refused
+      outs left refused
   pub account : Account row.keeps_accounts law (roots_of after) [] outs left refused

@@ -17,9 +17,9 @@ use Rattle.worker_pool.specs.Told.{IsSilent}
 -- the opener's row seat, outs and refusals are the caller's
 pub record TakesOver {J A W R L C O N T S K : Type 0} (caller : Caller J A W R L C O N T S K)
     (opener : OpenerState J A W R L C O N T S K) : Type 0 where
-  pub row : opener.seats.row ≡ caller.seats.row
-  pub outs : opener.outs ≡ caller.outs
-  pub refused : opener.refused ≡ caller.refused
+  pub row : opener.seats.row ≡ caller.opener.seats.row
+  pub outs : opener.outs ≡ caller.opener.outs
+  pub refused : opener.refused ≡ caller.opener.refused
 
 module _ {J A W R L C O N T S K : Type 0} (row : rows.Ghosts R J A S)
     (point : wait_point.Ghosts W A T) where

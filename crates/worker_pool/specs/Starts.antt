@@ -1,8 +1,9 @@
 -- What holds before workers are started, and after they have come home.
-use Rattle.std.specs.Prelude.{◌≡◌, ℕ, ◌+◌, ◌≤◌, ◌⊎◌, Bool, true, false, List, [], ◌++◌, length}
+use Rattle.std.specs.Prelude.{◌≡◌, ℕ, ◌+◌, ◌≤◌, Option, IsNone, IfSome, Bool, true, false, List, [], ◌++◌, length}
 use Rattle.std.specs.Prelude.{All, Vec, vec_len, vec_capacity, count_by, min}
 use Rattle.std.specs.List.{AllZip}
 use Rattle.run_queue.specs.Limits.{most_rows}
+use Rattle.worker_pool.specs.declared.standing.left_out.LeftOut.{LeftOut}
 use Rattle.worker_pool.specs.declared.opening.start.home.Home.{Home}
 use Rattle.worker_pool.specs.declared.opening.start.home.Start.{Start}
 use Rattle.worker_pool.specs.declared.opening.start.home.Start.TheVariants.{Joined, Refused, NotAsked}
@@ -45,10 +46,13 @@ module _ {S X A B : Type 0} (is_at_work : S → X → Type 0) where
     pub begins : (count : ℕ) → count ≤ started + vec_len states → may_begin opening workplace count
 
 module _ {S X : Type 0} (is_at_work : S → X → Type 0) (has_ended : S → X → X → Type 0) where
-  -- a worker that was at work is still at work, and has ended or did nothing
-  pub record Returns (workplace : S) (before after : X) : Type 0 where
-    pub at_work : is_at_work workplace after
-    pub ended : has_ended workplace before after ⊎ (after ≡ before)
+  -- A worker that was at work is still at work. It has ended, or it has the token of its number and
+  -- did nothing.
+  pub record Returns (workplace : S) (before : X) (number : ℕ) (came : X × Option LeftOut)
+      : Type 0 where
+    pub at_work : is_at_work workplace came.0
+    pub ended : IsNone came.1 → has_ended workplace before came.0
+    pub left_out : IfSome came.1 (λ token. (token.number ≡ number) × (came.0 ≡ before))
 
   -- a worker that was at work is still at work, and has ended
   pub record Ends (workplace : S) (before after : X) : Type 0 where

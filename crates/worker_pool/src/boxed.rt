@@ -1,5 +1,5 @@
 //! Tasks of any kind, as jobs of one step. Nothing else in the crate depends on this file;
-//! `pool_tests` and `memory_tests` run such tasks.
+//! `pool_tests` runs such tasks.
 ghost use Rattle.std.specs.Prelude.{◌≡◌, ℕ, IsOk, IfOk, IfErr};
 ghost use Rattle.worker_pool.specs.Steps.{ForksLighter};
 

@@ -1,13 +1,14 @@
 //! The caller: what the body of a pool schedules and cancels by. `specs/Callers` says what stays
 //! true of a caller; `opening/opener_state.rt` makes it and takes it apart.
 ghost use Rattle.std.specs.Prelude.{◌≡◌, ◌≤◌, [], ◌∷◌, ◌++◌};
-ghost use Rattle.worker_pool.specs.Callers.{IsCaller, StaysCaller, Closes, IsCancelled, roots_of};
+ghost use Rattle.worker_pool.specs.Callers.{IsCaller, StaysCaller, IsCancelled, roots_of};
 ghost use Rattle.worker_pool.specs.Callers.{started_of, workers_of, stop_of};
 ghost use Rattle.worker_pool.specs.Scheduled.{scheduled_in, row_in, waker_in};
 
 use crate::job::Job;
 use crate::lists::Lists;
-use crate::working::job_queue::{JobQueue, OpenerSeats, Told};
+use crate::opening::opener_state::OpenerState;
+use crate::working::job_queue::JobQueue;
 use crate::working::passes::Passes;
 use crate::working::run::begin;
 use crate::working::stop;
@@ -31,15 +32,7 @@ pub struct Caller<
     pub(crate) stop: &'p StopWord<J>,
     pub(crate) alloc: &'p A,
     pub(crate) ctx: &'p J::Ctx,
-    pub(crate) seats: OpenerSeats<J, A, W, R>,
-    pub(crate) stop_seat: StopSeat<J>,
-    /// What this thread had stored in the stop word when it last woke all workers. It takes no
-    /// memory: contracts alone see it.
-    pub(crate) told: Told<J>,
-    pub(crate) outs: L::List,
-    pub(crate) refused: u64,
-    /// Whether the body cancelled the pool through this caller.
-    pub(crate) cancelled: bool,
+    pub(crate) opener: OpenerState<J, A, W, R, L>,
 }
 
 /// What a caller has scheduled, and its seats at the rows and at the wait point. It takes no memory:
@@ -67,8 +60,8 @@ where
         ensures more { roots_of self.new ≡ roots_of self.old ++ job ∷ [] }
         ensures stop { stop_of self.new ≡ stop_of self.old }
     {
-        stop::note(self.stop, &mut self.stop_seat, &job);
-        let Err(job) = self.seats.pass(rt, self.queue, job) else {
+        stop::note(self.stop, &mut self.opener.stop_seat, &job);
+        let Err(job) = self.opener.seats.pass(rt, self.queue, job) else {
             return;
         };
         let refused = begin::<_, _, _, L, _>(
@@ -76,11 +69,11 @@ where
             self.alloc,
             self.ctx,
             self.queue,
-            &mut self.seats,
-            &mut self.outs,
+            &mut self.opener.seats,
+            &mut self.opener.outs,
             job,
         );
-        self.refused = self.refused.saturating_add(refused);
+        self.opener.refused = self.opener.refused.saturating_add(refused);
     }
 
     /// Cancels the pool: each worker ends before its next turn. Jobs can still be scheduled. The
@@ -91,21 +84,22 @@ where
         ensures same { roots_of self.new ≡ roots_of self.old }
         ensures cancelled { IsCancelled self.new }
     {
-        stop::cancel(self.stop, &mut self.stop_seat);
-        self.cancelled = true;
-        self.told = self.seats.wake_all(rt, self.queue, &self.stop_seat);
+        let opener = &mut self.opener;
+        stop::set(self.stop, &mut opener.stop_seat, true);
+        opener.cancelled = true;
+        opener.told = opener.seats.wake_all(rt, self.queue, &opener.stop_seat);
     }
 
     /// Returns what was scheduled through this caller so far.
     pub fn scheduled(&self) -> Scheduled<J, R::Seat, W::Seat>
         ensures jobs { scheduled_in result ≡ roots_of self.now }
-        ensures row { row_in result ≡ self.now.seats.row }
-        ensures waker { waker_in result ≡ self.now.seats.waker }
+        ensures row { row_in result ≡ self.now.opener.seats.row }
+        ensures waker { waker_in result ≡ self.now.opener.seats.waker }
     {
         Scheduled {
-            stop_seat: Snapshot::of(&self.stop_seat),
-            row: Snapshot::of(&self.seats.row),
-            waker: Snapshot::of(&self.seats.waker),
+            stop_seat: Snapshot::of(&self.opener.stop_seat),
+            row: Snapshot::of(&self.opener.seats.row),
+            waker: Snapshot::of(&self.opener.seats.waker),
         }
     }
 
@@ -115,24 +109,6 @@ where
         ensures started { result ≡ started_of self.now }
         ensures few { result ≤ workers_of self.now }
     {
-        self.seats.started
-    }
-}
-
-impl<'p, J, A, W, R, L> Caller<'p, J, A, W, R, L>
-where
-    J: Job<A>,
-    A: Allocator,
-    W: WaitPoint<A>,
-    R: Rows<J, A>,
-    L: Lists<J::Out, A>,
-{
-    /// Stores that the pool is closing, and wakes all workers. A cancelled pool stays cancelled.
-    pub(crate) fn close<RT: Wait>(&mut self, rt: &RT)
-        requires { IsCaller R.Rows W.WaitPoint J.Job L.Lists self.old }
-        ensures { Closes R.Rows W.WaitPoint self.old self.new }
-    {
-        stop::set(self.stop, &mut self.stop_seat, self.cancelled);
-        self.told = self.seats.wake_all(rt, self.queue, &self.stop_seat);
+        self.opener.seats.started
     }
 }

@@ -7,7 +7,6 @@ use std::alloc::{Allocator, Global};
 pub struct Closed<J, A: Allocator = Global>
 where
     J: Job<A>,
-    J::Out: Drop,
 {
     /// The outs: a list for each worker of the setup, by number, and then the caller's list.
     pub outs: Vec<Vec<J::Out, A>, A>,

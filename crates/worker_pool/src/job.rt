@@ -25,7 +25,7 @@ pub trait Job<A: Allocator>: Sized {
     type Ctx;
 
     /// The result that a job leaves.
-    type Out;
+    type Out: Drop;
 
     /// The value that is left of an abandoned job.
     type Abandoned: Drop;

@@ -5,7 +5,7 @@
 //! turns as in `with_pool`. The close accounts for all of them.
 
 mod counted_pool;
-mod ending;
+mod left_out;
 pub(crate) mod owned_pool;
 pub(crate) mod standing_pool;
 pub(crate) mod threads;

@@ -4,7 +4,7 @@ ghost use Rattle.std.specs.Prelude.{◌≡◌, ◌+◌, List, [], All, true, fal
 ghost use Rattle.worker_pool.specs.Accounts.{Account};
 ghost use Rattle.worker_pool.specs.Closings.{IsHandedBack, all_outs};
 ghost use Rattle.worker_pool.specs.Gathered.{HasGathered, HasRoom, IsEmpty, count_of};
-ghost use Rattle.worker_pool.specs.Ran.{RanToo, AreSettled};
+ghost use Rattle.worker_pool.specs.Ran.{AreSettled};
 ghost use Rattle.worker_pool.specs.Seats.{IsOpener};
 ghost use Rattle.worker_pool.specs.Laws.{law_of};
 ghost use Rattle.worker_pool.specs.Works.{IsAtWork};
@@ -38,7 +38,6 @@ pub(crate) fn close<RT, J, A, W, R, L>(
 where
     RT: Wait,
     J: Job<A>,
-    J::Out: Drop,
     A: Allocator + Clone,
     W: WaitPoint<A>,
     R: Rows<J, A>,
@@ -98,7 +97,6 @@ fn gather<J, A, W, R>(
 ) -> Gathered<J, A, W, R>
 where
     J: Job<A>,
-    J::Out: Drop,
     A: Allocator + Clone,
     W: WaitPoint<A>,
     R: Rows<J, A>,
@@ -116,8 +114,8 @@ where
     gathered
 }
 
-/// Runs the jobs, unless the pool was cancelled. Returns `before` plus the number of jobs that were
-/// refused here.
+/// Runs the jobs one after the other, each with all its kids, unless the pool was cancelled.
+/// Returns `before` plus the number of jobs that were refused here.
 fn settle<RT, J, A, R, L>(
     rt: &RT,
     alloc: &A,
@@ -130,7 +128,6 @@ fn settle<RT, J, A, R, L>(
 where
     RT: Wait,
     J: Job<A>,
-    J::Out: Drop,
     A: Allocator + Clone,
     R: Rows<J, A>,
     L: Lists<J::Out, A>,
@@ -144,30 +141,6 @@ where
     if cancelled {
         return before;
     }
-    run_left::<_, _, _, R, L>(rt, alloc, ctx, left, outs, before)
-}
-
-/// Runs the jobs one after the other, each with all its kids. Returns `before` plus the number of
-/// jobs that were refused here.
-fn run_left<RT, J, A, R, L>(
-    rt: &RT,
-    alloc: &A,
-    ctx: &J::Ctx,
-    left: &mut Vec<J, A>,
-    outs: &mut L::List,
-    before: u64,
-) -> u64
-where
-    RT: Wait,
-    J: Job<A>,
-    J::Out: Drop,
-    A: Allocator + Clone,
-    R: Rows<J, A>,
-    L: Lists<J::Out, A>,
-    ensures none_left { left.new.items ≡ [] }
-    ensures ran { RanToo R.keeps_accounts (law_of J.Job ctx.now) left.old.items
-        (L.items_of outs.old) (L.items_of outs.new) before result }
-{
     let mut closer: Closer<J, A, R> = Closer(PhantomData);
     let mut refused = before;
     while let Some(job) = left.pop() {

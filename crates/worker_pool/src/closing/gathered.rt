@@ -14,7 +14,6 @@ use std::alloc::{AllocError, Allocator};
 pub(crate) struct Gathered<J, A, W, R>
 where
     J: Job<A>,
-    J::Out: Drop,
     A: Allocator,
     W: WaitPoint<A>,
     R: Rows<J, A>,
@@ -28,7 +27,6 @@ where
 impl<J, A, W, R> Gathered<J, A, W, R>
 where
     J: Job<A>,
-    J::Out: Drop,
     A: Allocator + Clone,
     W: WaitPoint<A>,
     R: Rows<J, A>,

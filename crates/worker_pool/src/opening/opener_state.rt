@@ -1,10 +1,10 @@
 //! The state of the opener (the thread that opened a pool) before and after it is lent to the body
 //! as a caller. `specs/OpenerStates` says what it has then.
-ghost use Rattle.std.specs.Prelude.{◌≡◌, ◌≤◌, ◌↔◌, [], IsTrue};
+ghost use Rattle.std.specs.Prelude.{◌≡◌, ◌≤◌, []};
 ghost use Rattle.std.specs.Fn.{FnOnceReturnsAtMut};
-ghost use Rattle.worker_pool.specs.Callers.{IsCaller, StaysCaller, IsCancelled, roots_of};
+ghost use Rattle.worker_pool.specs.Callers.{IsCaller, StaysCaller, roots_of};
 ghost use Rattle.worker_pool.specs.Callers.{started_of, stop_of};
-ghost use Rattle.worker_pool.specs.OpenerStates.{IsFresh, IsLent, HasWorked, TakesOver};
+ghost use Rattle.worker_pool.specs.OpenerStates.{IsFresh, IsLent};
 ghost use Rattle.worker_pool.specs.Stops.{open_word};
 
 use crate::caller::Caller;
@@ -12,6 +12,7 @@ use crate::job::Job;
 use crate::lists::Lists;
 use crate::working::job_queue::{OpenerSeats, Told};
 use crate::working::pool::Pool;
+use crate::working::stop;
 use crate::working::stop::StopSeat;
 use event_count::WaitPoint;
 use run_queue::Rows;
@@ -37,6 +38,40 @@ where
     pub(crate) refused: u64,
     /// Whether the pool was cancelled.
     pub(crate) cancelled: bool,
+}
+
+impl<J, A, W, R, L> OpenerState<J, A, W, R, L>
+where
+    J: Job<A>,
+    A: Allocator,
+    W: WaitPoint<A>,
+    R: Rows<J, A>,
+    L: Lists<J::Out, A>,
+{
+    ghost use Rattle.std.specs.Prelude.{◌≡◌, ◌≢◌};
+    ghost use Rattle.worker_pool.specs.Seats.{IsOpener};
+    ghost use Rattle.worker_pool.specs.Stops.{IsStopSeatOf, stored_of, open_word, closing_word};
+    ghost use Rattle.worker_pool.specs.Told.{IsSilent, told_of};
+
+    /// Stores that the pool is closing, and wakes all workers. A cancelled pool stays cancelled.
+    pub(crate) fn end<RT: Wait>(&mut self, rt: &RT, pool: &Pool<J, A, W, R>)
+        requires seats { IsOpener R.Rows W.WaitPoint pool.now.queue self.old.seats.row
+            self.old.seats.waker }
+        requires stop { IsStopSeatOf pool.now.stop.shared self.old.stop_seat }
+        ensures seats { IsOpener R.Rows W.WaitPoint pool.now.queue self.new.seats.row
+            self.new.seats.waker }
+        ensures stop { IsStopSeatOf pool.now.stop.shared self.new.stop_seat }
+        ensures closing { stored_of self.new.stop_seat ≡ closing_word self.old.cancelled }
+        ensures silent { IsSilent self.new.seats self.new.stop_seat self.new.told }
+        ensures told { told_of self.new.told ≢ open_word }
+        ensures row { self.new.seats.row ≡ self.old.seats.row }
+        ensures outs { self.new.outs ≡ self.old.outs }
+        ensures refused { self.new.refused ≡ self.old.refused }
+        ensures cancelled { self.new.cancelled ≡ self.old.cancelled }
+    {
+        stop::set(&pool.stop.shared, &mut self.stop_seat, self.cancelled);
+        self.told = self.seats.wake_all(rt, &pool.queue, &self.stop_seat);
+    }
 }
 
 /// Calls the body with a caller, and then stores that the pool is closing, so that the workers end.
@@ -72,7 +107,15 @@ where
 {
     let mut caller = caller_of(pool, ctx, opener, started);
     call(&mut caller, body);
-    end(rt, pool, caller)
+    let Caller {
+        queue: _,
+        stop: _,
+        alloc: _,
+        ctx: _,
+        mut opener,
+    } = caller;
+    opener.end(rt, pool);
+    opener
 }
 
 /// Returns the caller that works with this state, in a pool of which `started` workers were
@@ -99,71 +142,15 @@ where
     ensures stop { result.stop.now ≡ pool.now.stop.shared }
     ensures ctx { result.ctx.now ≡ ctx.now }
 {
-    let OpenerState {
-        mut seats,
-        stop_seat,
-        told,
-        outs,
-        refused,
-        cancelled: _,
-    } = opener;
-    seats.started = started;
+    let mut opener = opener;
+    opener.seats.started = started;
+    opener.cancelled = false;
     Caller {
         queue: &pool.queue,
         stop: &pool.stop.shared,
         alloc: &pool.alloc,
         ctx,
-        seats,
-        stop_seat,
-        told,
-        outs,
-        refused,
-        cancelled: false,
-    }
-}
-
-/// Stores that the pool is closing, and returns the state that the caller worked with.
-fn end<RT, J, A, W, R, L>(
-    rt: &RT,
-    pool: &Pool<J, A, W, R>,
-    caller: Caller<'_, J, A, W, R, L>,
-) -> OpenerState<J, A, W, R, L>
-where
-    RT: Wait,
-    J: Job<A>,
-    A: Allocator,
-    W: WaitPoint<A>,
-    R: Rows<J, A>,
-    L: Lists<J::Out, A>,
-    requires caller { IsCaller R.Rows W.WaitPoint J.Job L.Lists caller }
-    requires queue { caller.queue.now ≡ pool.now.queue }
-    requires stop { caller.stop.now ≡ pool.now.stop.shared }
-    ensures worked { HasWorked R.Rows W.WaitPoint J.Job L.Lists pool.now caller.entry.ctx.now
-        (roots_of caller.entry) result }
-    ensures cancelled { IsTrue result.cancelled ↔ IsCancelled caller.entry }
-    ensures taken_over { TakesOver caller.entry result }
-{
-    let mut caller = caller;
-    caller.close(rt);
-    let Caller {
-        queue: _,
-        stop: _,
-        alloc: _,
-        ctx: _,
-        seats,
-        stop_seat,
-        told,
-        outs,
-        refused,
-        cancelled,
-    } = caller;
-    OpenerState {
-        seats,
-        stop_seat,
-        told,
-        outs,
-        refused,
-        cancelled,
+        opener,
     }
 }
 

@@ -3,20 +3,22 @@
 ghost use Rattle.std.specs.Prelude.{◌≡◌, ◌+◌, ◌≤◌, length, IfOk};
 ghost use Rattle.run_queue.specs.Limits.{most_rows};
 ghost use Rattle.worker_pool.specs.Openings.{AreRowSeats, AreWakers};
+ghost use Rattle.worker_pool.specs.Seats.{IsJobQueue};
 ghost use Rattle.worker_pool.specs.Setup.{IsPoolSize};
 
+use crate::working::job_queue::JobQueue;
 use event_count::{CountFault, WaitPoint};
 use run_queue::{Rows, RowsFault};
 use std::alloc::{AllocError, Allocator};
 use std::marker::PhantomData;
 use waking_rows::{RowPoint, WakingRows, on_one_count};
 
-/// The rows of a pool with their seats, and the point at which its workers wait with its seats.
+/// The rows and the wait point of a pool, and the seats there, by number. The last seats are the
+/// opener's.
 #[derive(Drop)]
 pub struct Place<J, A: Allocator, W: WaitPoint<A>, R: Rows<J, A>> {
-    pub(crate) rows: R,
-    pub(crate) row_seats: Vec<R::Seat, A>,
-    pub(crate) point: W,
+    pub(crate) queue: JobQueue<W, R>,
+    pub(crate) rows: Vec<R::Seat, A>,
     pub(crate) wakers: Vec<W::Seat, A>,
     pub(crate) of: PhantomData<J>,
 }
@@ -30,17 +32,15 @@ pub trait Opens<J, A: Allocator, W: WaitPoint<A>, R: Rows<J, A>> {
     /// and one more for the thread that opens the pool.
     fn open(alloc: &A, workers: u16) -> Result<Place<J, A, W, R>, AllocError>
         requires { IsPoolSize workers }
-        ensures rows { IfOk result (λ made. R.row_count made.rows ≡ workers) }
-        ensures row_seats { IfOk result (λ made. R.seat_count made.rows ≡ workers + 1) }
-        ensures seats { IfOk result (λ made.
-            AreRowSeats R.Rows made.rows 0 made.row_seats.items) }
-        ensures rows_all { IfOk result (λ made. length made.row_seats.items ≡ workers + 1) }
-        ensures waiters { IfOk result (λ made. W.waiter_count made.point ≡ workers) }
-        ensures many { IfOk result (λ made. W.seat_count made.point ≡ workers + 1) }
+        ensures workers { IfOk result (λ made. made.queue.workers ≡ workers) }
+        ensures sized { IfOk result (λ made. IsJobQueue R.Rows W.WaitPoint made.queue) }
+        ensures rows { IfOk result (λ made.
+            AreRowSeats R.Rows made.queue.rows 0 made.rows.items) }
         ensures wakers { IfOk result (λ made.
-            AreWakers W.WaitPoint made.point 0 made.wakers.items) }
-        ensures all { IfOk result (λ made. length made.wakers.items ≡ workers + 1) }
-        ensures joined { IfOk result (λ made. joins made.rows made.point) };
+            AreWakers W.WaitPoint made.queue.point 0 made.wakers.items) }
+        ensures many { IfOk result (λ made.
+            (length made.rows.items ≡ workers + 1) × (length made.wakers.items ≡ workers + 1)) }
+        ensures joined { IfOk result (λ made. joins made.queue.rows made.queue.point) };
 }
 
 /// Opens rows and point separately.
@@ -53,9 +53,8 @@ impl<J, A: Allocator + Clone, W: WaitPoint<A>, R: Rows<J, A>> Opens<J, A, W, R> 
         let (rows, row_seats) = open_rows::<J, A, R>(alloc, workers)?;
         let (point, wakers) = open_point(alloc, workers)?;
         Ok(Place {
-            rows,
-            row_seats,
-            point,
+            queue: JobQueue::new(rows, point, workers),
+            rows: row_seats,
             wakers,
             of: PhantomData,
         })
@@ -79,9 +78,8 @@ impl<J: Drop, A: Allocator + Clone> Opens<J, A, RowPoint<A>, WakingRows<J, A>> f
     ) -> Result<Place<J, A, RowPoint<A>, WakingRows<J, A>>, AllocError> {
         let made = on_one_count(alloc, workers)?;
         Ok(Place {
-            rows: made.rows,
-            row_seats: made.row_seats,
-            point: made.point,
+            queue: JobQueue::new(made.rows, made.point, workers),
+            rows: made.row_seats,
             wakers: made.waiters,
             of: PhantomData,
         })

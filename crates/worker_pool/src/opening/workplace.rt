@@ -27,7 +27,6 @@ pub(crate) struct PoolWorkplace<'p, J: Job<A>, A: Allocator, W: WaitPoint<A>, R:
 impl<'p, J, A, W, R, G> Workplace<WorkerState<J, A, W, R>> for PoolWorkplace<'p, J, A, W, R, G>
 where
     J: Job<A>,
-    J::Out: Drop,
     A: Allocator + Clone,
     W: WaitPoint<A>,
     R: Rows<J, A>,
@@ -69,7 +68,6 @@ impl<'p, W, R, L, RT, J, A, G, F> Opening<PoolWorkplace<'p, J, A, W, R, G>>
 where
     RT: Wait,
     J: Job<A>,
-    J::Out: Drop,
     A: Allocator + Clone,
     W: WaitPoint<A>,
     R: Rows<J, A>,

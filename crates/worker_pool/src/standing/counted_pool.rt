@@ -30,7 +30,7 @@ where
     RT: Threads + Wait + Copy + Send + 'static,
     J: Job<A> + Drop + Send + 'static,
     J::Ctx: Drop + Send + Sync + 'static,
-    J::Out: Drop + Send + 'static,
+    J::Out: Send + 'static,
     J::Abandoned: Send + 'static,
     A: Allocator + Clone + Send + Sync + 'static,
     ensures bad_workers { IsErrOf result PoolFault.BadWorkers ↔ IsNoPoolSize setup.now.workers }

@@ -29,7 +29,6 @@ impl<J, A, W, R> Workplace<WorkerState<J, A, W, R>> for OwnedPool<J, A, W, R>
 where
     J: Job<A>,
     J::Ctx: Drop,
-    J::Out: Drop,
     A: Allocator + Clone,
     W: WaitPoint<A>,
     R: Rows<J, A>,

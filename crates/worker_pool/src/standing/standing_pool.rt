@@ -11,7 +11,6 @@ use crate::opening::opener_state::OpenerState;
 use crate::opening::opens::{Apart, Opens};
 use crate::opening::start::Home;
 use crate::setup::{PoolFault, Setup};
-use crate::standing::ending::end;
 use crate::standing::owned_pool::OwnedPool;
 use crate::standing::threads::{SharedWorkplace, WorkerThread, join_all, start_each, take_back};
 use crate::working::passes::Passes;
@@ -36,7 +35,6 @@ pub struct StandingPool<J, A, W, R, L>
 where
     J: Job<A>,
     J::Ctx: Drop,
-    J::Out: Drop,
     A: Allocator + Clone,
     W: WaitPoint<A>,
     R: Rows<J, A>,
@@ -54,7 +52,7 @@ impl<J, A, W, R, L> StandingPool<J, A, W, R, L>
 where
     J: Job<A> + Drop + Send + 'static,
     J::Ctx: Drop + Send + Sync + 'static,
-    J::Out: Drop + Send + 'static,
+    J::Out: Send + 'static,
     J::Abandoned: Send + 'static,
     A: Allocator + Clone + Send + Sync + 'static,
     W: WaitPoint<A> + Send + Sync + 'static,
@@ -202,12 +200,12 @@ where
     {
         let StandingPool {
             shared,
-            opener,
+            mut opener,
             threads,
             ended,
             gathered,
         } = self;
-        let opener = end(rt, &shared.place.pool, opener);
+        opener.end(rt, &shared.place.pool);
         let homes = join_all(rt, &opener.told, threads, ended);
         let OwnedPool { pool, ctx } = take_back(rt, shared).place;
         close(rt, pool, &ctx, opener, homes, gathered)
@@ -225,7 +223,6 @@ impl<J, A, W, R, L> Stands for StandingPool<J, A, W, R, L>
 where
     J: Job<A>,
     J::Ctx: Drop,
-    J::Out: Drop,
     A: Allocator + Clone,
     W: WaitPoint<A>,
     R: Rows<J, A>,

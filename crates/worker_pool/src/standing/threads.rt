@@ -8,33 +8,32 @@ ghost use Rattle.worker_pool.specs.Stops.{open_word};
 ghost use Rattle.worker_pool.specs.Told.{told_of};
 
 use crate::opening::start::{Home, STACK, Workplace};
+use crate::standing::left_out::{LeftOut, LeftOutBox};
 use crate::working::job_queue::Told;
 use core::thread::Stack;
 use std::alloc::Allocator;
 use std::snapshot::Snapshot;
-use std::sync::atomic::{AtomicU64, Ordering};
 use std::sync::{Arc, Wait};
 use std::thread::{Promise, PromisedHandle, Threads, yield_now};
 
-/// The promise of a worker's thread: a worker that began in this state is still at work at this
-/// workplace, and has ended or did nothing.
+/// The state with which a worker comes home, and its token if it was left out.
+type Return<X> = (X, Option<LeftOut>);
+
+/// The promise of a worker's thread: the worker with this number, which began in this state, is
+/// still at work at this workplace. It has ended, or shows that it was left out.
 #[derive(Drop)]
-struct ComeHome<S, X>(Snapshot<S>, Snapshot<X>);
+struct ComeHome<S, X>(Snapshot<S>, Snapshot<X>, Snapshot<u64>);
 
-impl<X, S: Workplace<X>> Promise<X> for ComeHome<S, X> {
-    ghost kept_by = { λ from state.
-        Returns S.is_at_work S.has_ended from.0.value from.1.value state };
+impl<X, S: Workplace<X>> Promise<Return<X>> for ComeHome<S, X> {
+    ghost kept_by = { λ from came.
+        Returns S.is_at_work S.has_ended from.0.value from.1.value from.2.value came };
 }
-
-/// A number that no worker has.
-const NOBODY: u64 = u64::MAX;
 
 /// A workplace that threads own together.
 #[derive(Drop)]
 pub(crate) struct SharedWorkplace<S: Drop> {
     pub(crate) place: S,
-    /// The number of the last worker whose thread could not be started, or `NOBODY`.
-    left_out: AtomicU64,
+    left_out: LeftOutBox,
 }
 
 impl<S: Drop> SharedWorkplace<S> {
@@ -44,7 +43,7 @@ impl<S: Drop> SharedWorkplace<S> {
     {
         SharedWorkplace {
             place,
-            left_out: AtomicU64::new(NOBODY),
+            left_out: LeftOutBox::new(),
         }
     }
 }
@@ -52,7 +51,7 @@ impl<S: Drop> SharedWorkplace<S> {
 /// A worker's thread, which owns the workplace together with others.
 #[derive(Drop)]
 pub(crate) struct WorkerThread<S: Workplace<X>, X: Drop> {
-    handle: PromisedHandle<X, ComeHome<S, X>>,
+    handle: PromisedHandle<Return<X>, ComeHome<S, X>>,
 }
 
 /// Starts the worker `number` with this state, on a thread that shares the workplace. If no thread
@@ -79,22 +78,26 @@ where
     let own_rt = *rt;
     match Stack::new().stack_size(STACK).spawn_with(
         rt,
-        ComeHome(Snapshot::of(&shared.place), Snapshot::of(&state)),
-        move || -> X
+        ComeHome(
+            Snapshot::of(&shared.place),
+            Snapshot::of(&state),
+            Snapshot::of(&number),
+        ),
+        move || -> Return<X>
             requires { S.is_at_work (arc_value theirs).place state }
-            ensures { Returns S.is_at_work S.has_ended (arc_value theirs).place state result }
+            ensures { Returns S.is_at_work S.has_ended (arc_value theirs).place state number
+                result }
         {
-            if theirs.left_out.load(Ordering::SeqCst) == number {
-                state
-            } else {
-                theirs.place.work(&own_rt, state)
+            match theirs.left_out.take(&own_rt, number) {
+                Some(left_out) => (state, Some(left_out)),
+                None => (theirs.place.work(&own_rt, state), None),
             }
         },
     ) {
         Ok(handle) => Ok(WorkerThread { handle }),
         Err(refused) => {
-            shared.left_out.store(number, Ordering::SeqCst);
-            Err(Home::refused(refused))
+            shared.left_out.leave(rt, number, &refused);
+            Err(Home::refused(refused).without_token())
         }
     }
 }
@@ -168,7 +171,7 @@ where
         return ended;
     };
     let WorkerThread { handle } = child;
-    ended.push_reserved(Home::joined(rt, handle));
+    ended.push_reserved(Home::joined(rt, handle).without_token());
     join_all(rt, told, threads, ended)
 }
 

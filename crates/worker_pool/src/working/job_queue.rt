@@ -6,7 +6,6 @@ ghost use Rattle.run_queue.specs.Account.{AccountsFor};
 
 mod opener_seats;
 mod seen;
-mod steal;
 mod told;
 mod worker_seats;
 

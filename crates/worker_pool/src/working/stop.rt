@@ -149,16 +149,6 @@ pub fn set<J>(stop: &StopWord<J>, seat: &mut StopSeat<J>, cancelled: bool)
     stop.store::<Stores<J>>(seat, STOP, word);
 }
 
-/// Stores that the pool is cancelled.
-pub fn cancel<J>(stop: &StopWord<J>, seat: &mut StopSeat<J>)
-    requires { IsStopSeatOf stop.now seat.old }
-    ensures of { IsStopSeatOf stop.now seat.new }
-    ensures same { jobs_of seat.new ≡ jobs_of seat.old }
-    ensures stored { stored_of seat.new ≡ cancelled_word }
-{
-    stop.store::<Stores<J>>(seat, STOP, CANCELLED);
-}
-
 /// Records in the seat's view that the job was scheduled. Contracts alone see the view.
 pub(crate) fn note<J>(stop: &StopWord<J>, seat: &mut StopSeat<J>, job: &J)
     requires { IsStopSeatOf stop.now seat.old }

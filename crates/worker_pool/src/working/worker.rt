@@ -4,7 +4,7 @@
 ghost use Rattle.std.specs.Prelude.{◌≡◌, ◌<◌, ◌++◌, All, false};
 ghost use Rattle.steal_walk.specs.Walk.{VisitsEachOnce};
 ghost use Rattle.worker_pool.specs.Seats.{IsJobQueue, IsOwner};
-ghost use Rattle.worker_pool.specs.Seen.{HasFoundTheEnd, MayEnd};
+ghost use Rattle.worker_pool.specs.Seen.{MayEnd};
 ghost use Rattle.worker_pool.specs.Stops.{IsStopSeatOf, stored_of, found_of};
 ghost use Rattle.worker_pool.specs.Turns.{jobs_in, IfLast};
 ghost use Rattle.worker_pool.specs.Works.{IsAtWork, IsInside, HasEnded};
@@ -32,7 +32,6 @@ use steal_walk::Walk;
 pub(crate) struct WorkerState<J, A, W, R>
 where
     J: Job<A>,
-    J::Out: Drop,
     A: Allocator,
     W: WaitPoint<A>,
     R: Rows<J, A>,
@@ -70,7 +69,6 @@ pub(crate) fn take_turns<RT, J, A, W, R, G>(
 where
     RT: Wait,
     J: Job<A>,
-    J::Out: Drop,
     A: Allocator + Clone,
     W: WaitPoint<A>,
     R: Rows<J, A>,
@@ -122,8 +120,9 @@ where
     unreachable!()
 }
 
-/// Takes one turn. It looks in the worker's own row, then in its partition, then in all rows, and
-/// waits if it finds no job. In a cancelled pool it ends at once.
+/// Takes one turn. It looks in the worker's own row, then in its partition, then in all rows. If it
+/// finds no job, it enters the wait point, and looks once more at the stop word and at all rows. It
+/// sleeps if the pool is open and all rows are empty. In a cancelled pool it ends at once.
 fn take_turn<RT, J, A, W, R>(
     rt: &RT,
     pool: &Pool<J, A, W, R>,
@@ -168,38 +167,6 @@ where
     if let Some(job) = seats.steal(rt, queue, walk) {
         return Turn::Found(job);
     }
-    wait(rt, pool, seats, stop, random)
-}
-
-/// Enters the wait point, looks once more at the stop word and at all rows, and sleeps if the pool
-/// is open and all rows are empty.
-fn wait<RT, J, A, W, R>(
-    rt: &RT,
-    pool: &Pool<J, A, W, R>,
-    seats: &mut WorkerSeats<J, A, W, R>,
-    stop: &mut StopSeat<J>,
-    random: &mut Lcg64Xsh32,
-) -> Turn<J>
-where
-    RT: Wait,
-    A: Allocator,
-    W: WaitPoint<A>,
-    R: Rows<J, A>,
-    requires seats { IsOwner R.Rows W.WaitPoint pool.now.queue seats.old.row seats.old.waker }
-    requires silent { seats.old.announcing ≡ false }
-    requires stop { IsStopSeatOf pool.now.stop.shared stop.old }
-    requires coprimes { pool.now.coprimes ≡ pool.now.queue.workers }
-    ensures seats { IsOwner R.Rows W.WaitPoint pool.now.queue seats.new.row seats.new.waker }
-    ensures silent { seats.new.announcing ≡ false }
-    ensures stop { IsStopSeatOf pool.now.stop.shared stop.new }
-    ensures stored { stored_of stop.new ≡ stored_of stop.old }
-    ensures puts { R.keeps_accounts → R.puts_of seats.new.row ≡ R.puts_of seats.old.row }
-    ensures takes { R.keeps_accounts
-        → R.takes_of seats.new.row ≡ R.takes_of seats.old.row ++ jobs_in result }
-    ensures last { IfLast result
-        (HasFoundTheEnd (R.row_count pool.now.queue.rows) seats.new.seen) }
-{
-    let queue = &pool.queue;
     seats.enter(rt, queue);
     let stopped = seats.look_at_stop(&pool.stop.shared, stop);
     let walk = walk_of(pool, random);

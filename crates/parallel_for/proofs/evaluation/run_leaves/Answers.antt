@@ -14,7 +14,7 @@ returns-clause-right g c =
     outs-hold (IsRight item_at)
     (λ (pieces : Vec (Piece g.row.K-Item.Denot g.row.A.Denot) g.row.A.Denot). pieces.items)
     c.in-Ok.closed.outs.items
-    (λ job piece step. IsRight-leaf item_at piece _ _ step.0)
+    (λ job piece step. IsRight-leaf item_at piece _ _ step.0.0)
     c.in-Ok.ensures.account
 
 pub returns-clause-covered : goal.returns-clause-covered
@@ -30,7 +30,7 @@ returns-clause-covered g c = λ h.
     (rest.first, rest.last) block (omega (arith, ctx.cut, ctx.some)) job.order
     kid.order step.0)
     (λ job piece step. weight-leaf h item_at piece.items.items (job.first, job.last)
-    (piece.first, piece.last) block job.order step.0)
+    (piece.first, piece.last) block job.order step.0.0)
     c.args.root _ closed.left.items closed.refused tt c.in-Ok.ensures.none_left none_refused
     c.in-Ok.ensures.account in
     came ∙ sym (weight-lists h closed.outs.items)

@@ -59,3 +59,15 @@ impl<X> Home<X> {
         }
     }
 }
+
+impl<X, T: Drop> Home<(X, T)> {
+    /// Returns the state alone, of a worker that brought a token home beside it.
+    pub(crate) fn without_token(self) -> Home<X>
+        ensures state { result.state ≡ self.state.0 }
+        ensures start { result.start ≡ self.start }
+    {
+        let Home { state, start } = self;
+        let (state, _token) = state;
+        Home { state, start }
+    }
+}

@@ -1,28 +1,25 @@
 //! What a worker has found since it entered the wait point. `specs/Seen` has the same states, and
 //! the clauses on sleeping and ending rest on them.
-ghost use Rattle.std.specs.Prelude.{◌≡◌, ◌≢◌, ◌↔◌, ◌<◌, ◌==◌, IsTrue, not};
-ghost use Rattle.worker_pool.specs.Seen.{none_seen, has_passed, after_look, after_stop_look};
-ghost use Rattle.worker_pool.specs.Stops.{IsStopSeatOf, jobs_of, stored_of, found_of, open_word};
+ghost use Rattle.std.specs.Prelude.{◌≡◌, ◌<◌, ◌==◌};
+ghost use Rattle.worker_pool.specs.Seen.{none_seen, has_passed, after_look};
 
-use crate::working::stop;
-use crate::working::stop::{StopSeat, StopWord};
 use run_queue::{MOST_ROWS, Rows};
 use std::alloc::Allocator;
 use std::sync::Wait;
 
 /// The most rows that a pool can have.
-const ROWS: usize = MOST_ROWS as usize;
+pub(super) const ROWS: usize = MOST_ROWS as usize;
 
 /// Which rows a worker has found empty since it entered and last loaded the stop word, and what it
 /// found in the stop word.
 #[derive(Drop)]
 pub(crate) struct Seen {
     /// Whether the last look at each row found no job, by row.
-    rows: [bool; ROWS],
+    pub(super) rows: [bool; ROWS],
     /// Whether the last look at the stop word found the pool open.
-    flag: bool,
+    pub(super) flag: bool,
     /// Whether the last look at the stop word found the pool closing or cancelled.
-    stopped: bool,
+    pub(super) stopped: bool,
 }
 
 impl Seen {
@@ -58,26 +55,5 @@ impl Seen {
         let length = rows.row_length(rt, seat, row);
         self.rows[row as usize] = length == 0;
         length
-    }
-
-    /// Loads the stop word, and returns whether the pool is closing or cancelled. It forgets the
-    /// looks at rows: each row is to be looked at again.
-    pub(crate) fn look_at_stop<J>(&mut self, stop: &StopWord<J>, seat: &mut StopSeat<J>) -> bool
-        requires { IsStopSeatOf stop.now seat.old }
-        ensures seen { self.new ≡ after_stop_look (found_of seat.new) }
-        ensures flag { self.new.flag ≡ not result }
-        ensures stopped { self.new.stopped ≡ result }
-        ensures of { IsStopSeatOf stop.now seat.new }
-        ensures same { jobs_of seat.new ≡ jobs_of seat.old }
-        ensures stored { stored_of seat.new ≡ stored_of seat.old }
-        ensures set { IsTrue result ↔ (found_of seat.new ≢ open_word) }
-    {
-        let is_set = stop::is_set(stop, seat);
-        *self = Seen {
-            rows: [false; ROWS],
-            flag: !is_set,
-            stopped: is_set,
-        };
-        is_set
     }
 }

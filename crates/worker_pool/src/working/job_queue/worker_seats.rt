@@ -9,8 +9,8 @@ ghost use Rattle.worker_pool.specs.Seen.{none_seen, after_stop_look, HasPassedRo
 ghost use Rattle.worker_pool.specs.Stops.{IsStopSeatOf, jobs_of, stored_of, found_of, open_word};
 
 use crate::working::job_queue::JobQueue;
-use crate::working::job_queue::seen::Seen;
-use crate::working::job_queue::steal::steal;
+use crate::working::job_queue::seen::{ROWS, Seen};
+use crate::working::stop;
 use crate::working::stop::{StopSeat, StopWord};
 use event_count::WaitPoint;
 use run_queue::Rows;
@@ -127,7 +127,12 @@ impl<J, A: Allocator, W: WaitPoint<A>, R: Rows<J, A>> WorkerSeats<J, A, W, R> {
         ensures takes { R.keeps_accounts
             → R.takes_of self.new.row ≡ R.takes_of self.old.row ++ option_to_list result }
     {
-        steal(rt, &queue.rows, &mut self.row, walk)
+        for row in walk {
+            if let Some(job) = self.take_back(rt, queue, row as u16) {
+                return Some(job);
+            }
+        }
+        None
     }
 
     /// Enters the wait point: from now on the worker can be woken. It has yet to look at each row
@@ -144,7 +149,8 @@ impl<J, A: Allocator, W: WaitPoint<A>, R: Rows<J, A>> WorkerSeats<J, A, W, R> {
         self.seen = Seen::nothing();
     }
 
-    /// Loads the stop word, and returns whether the pool is closing or cancelled.
+    /// Loads the stop word, and returns whether the pool is closing or cancelled. The worker has yet
+    /// to look at each row again.
     pub(crate) fn look_at_stop(&mut self, stop: &StopWord<J>, seat: &mut StopSeat<J>) -> bool
         requires { IsStopSeatOf stop.now seat.old }
         ensures seen { self.new.seen ≡ after_stop_look (found_of seat.new) }
@@ -158,7 +164,13 @@ impl<J, A: Allocator, W: WaitPoint<A>, R: Rows<J, A>> WorkerSeats<J, A, W, R> {
         ensures stored { stored_of seat.new ≡ stored_of seat.old }
         ensures set { IsTrue result ↔ (found_of seat.new ≢ open_word) }
     {
-        self.seen.look_at_stop(stop, seat)
+        let is_set = stop::is_set(stop, seat);
+        self.seen = Seen {
+            rows: [false; ROWS],
+            flag: !is_set,
+            stopped: is_set,
+        };
+        is_set
     }
 
     /// Looks at all rows of the walk, and returns the first in which it saw a job.
@@ -180,7 +192,14 @@ impl<J, A: Allocator, W: WaitPoint<A>, R: Rows<J, A>> WorkerSeats<J, A, W, R> {
         ensures puts { R.keeps_accounts → R.puts_of self.new.row ≡ R.puts_of self.old.row }
         ensures takes { R.keeps_accounts → R.takes_of self.new.row ≡ R.takes_of self.old.row }
     {
-        self.seen.first_full(rt, &queue.rows, &mut self.row, walk)
+        let mut first = None;
+        for row in walk {
+            let length = self.seen.look(rt, &queue.rows, &mut self.row, row as u16);
+            if length > 0 && first.is_none() {
+                first = Some(row as u16);
+            }
+        }
+        first
     }
 
     /// Sleeps until the worker is woken. Since it entered, it has found each row empty and the pool

@@ -6,4 +6,4 @@ pub fetch_sub-found-requires : goal.fetch_sub-found-requires
 fetch_sub-found-requires g c =
     let gives = c.args.share.now.gives in
     let none_held = c.args.share.now.none_held in
-    (search rules, search rules, notify_keeps _ _ _ _ _ _ gives none_held c.requires.left)
+    (search rules, search rules, notify_keeps _ _ _ _ _ _ _ gives none_held c.requires.left)

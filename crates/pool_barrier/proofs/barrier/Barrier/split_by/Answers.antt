@@ -7,5 +7,5 @@ split_seat-seat-requires g c =
     let gives = c.args.share.now.gives in (
       search rules,
       search rules,
-      split_keeps _ _ c.args.k _ _ _ _ c.requires.amount gives c.requires.room,
+      split_keeps _ _ c.args.k _ _ _ _ _ c.requires.amount gives c.requires.room,
     )

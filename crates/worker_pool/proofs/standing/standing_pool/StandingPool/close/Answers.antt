@@ -1,6 +1,7 @@
-use Rattle.std.proofs.Common.{◌∙◌, [], All, sym, subst}
+use Rattle.std.proofs.Common.{◌∙◌, ◌+◌, [], All, ap, sym, subst}
 use Rattle.worker_pool.specs.Accounts.{Account}
 use Rattle.worker_pool.specs.Closings.{all_outs}
+use Rattle.worker_pool.specs.Gathered.{HasRoom}
 use Rattle.worker_pool.specs.Laws.{law_of}
 use Rattle.worker_pool.specs.Seats.{IsOpener}
 use Rattle.worker_pool.specs.Standing.{roots_in}
@@ -10,8 +11,8 @@ use Rattle.worker_pool.proofs.standing.standing_pool.StandingPool.close.Goals as
 pub close-requires-clause-seats : goal.close-requires-clause-seats
 close-requires-clause-seats g c =
     subst (λ shared. IsOpener g.R.Rows g.W.WaitPoint shared.place.pool.queue
-    c.end-opener.result.seats.row c.end-opener.result.seats.waker)
-    (c.deref.ensures ∙ sym c.take_back-pool.ensures) c.end-opener.ensures.seats
+    c.end.new.self.seats.row c.end.new.self.seats.waker)
+    (c.deref.ensures ∙ sym c.take_back-pool.ensures) c.end.ensures.seats
 
 pub close-requires-clause-at_work : goal.close-requires-clause-at_work
 close-requires-clause-at_work g c =
@@ -20,16 +21,25 @@ close-requires-clause-at_work g c =
     c.join_all-homes.result.items) (sym c.take_back-pool.ensures)
     (c.join_all-homes.ensures.home c.args.self.shared.value.place c.requires.ours c.requires.home)
 
+pub close-requires-clause-took_none : goal.close-requires-clause-took_none
+close-requires-clause-took_none g c = λ on.
+    ap g.R.Rows.takes_of c.end.ensures.row ∙ c.requires.took_none on
+
+pub close-requires-clause-room : goal.close-requires-clause-room
+close-requires-clause-room g c =
+    subst (λ shared. HasRoom (shared.place.pool.queue.workers + 1) c.args.self.gathered)
+    (sym c.take_back-pool.ensures) c.requires.gathered_room
+
 pub returns-clause-account : goal.returns-clause-account
 returns-clause-account g c =
     let start : Account g.R.Rows.keeps_accounts (law_of g.J.Job c.take_back-pool.result.place.ctx)
-    (roots_in c.args.self) (g.R.Rows.puts_of c.end-opener.result.seats.row)
-    (g.L.Lists.items_of c.end-opener.result.outs) [] c.end-opener.result.refused =
+    (roots_in c.args.self) (g.R.Rows.puts_of c.end.new.self.seats.row)
+    (g.L.Lists.items_of c.end.new.self.outs) [] c.end.new.self.refused =
     rw (
       c.take_back-pool.ensures,
-      c.end-opener.ensures.row,
-      c.end-opener.ensures.outs,
-      c.end-opener.ensures.refused,
+      c.end.ensures.row,
+      c.end.ensures.outs,
+      c.end.ensures.refused,
     ) c.requires.account in
     subst (λ shared. Account g.R.Rows.keeps_accounts (law_of g.J.Job shared.place.ctx)
     (roots_in c.args.self) [] (all_outs c.close.result.outs) c.close.result.left.items
@@ -38,4 +48,4 @@ returns-clause-account g c =
 
 pub returns-clause-none_left : goal.returns-clause-none_left
 returns-clause-none_left g c =
-    c.close.ensures.none_left (c.end-opener.ensures.cancelled ∙ c.requires.not_cancelled)
+    c.close.ensures.none_left (c.end.ensures.cancelled ∙ c.requires.not_cancelled)

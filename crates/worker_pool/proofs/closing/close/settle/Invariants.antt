@@ -1,7 +1,7 @@
 use Rattle.std.proofs.Common.{ℕ, List}
 use Rattle.worker_pool.specs.Laws.{law_of}
 use Rattle.worker_pool.specs.Ran.{RanToo}
-use Rattle.worker_pool.proofs.closing.close.run_left.Given as goal
+use Rattle.worker_pool.proofs.closing.close.settle.Given as goal
 
 -- once those that are left have run too, all have
 abbrev pub invariant-loop-job : goal.invariant-loop-job
