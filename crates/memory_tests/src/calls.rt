@@ -49,60 +49,38 @@ pub(crate) enum Answer {
 }
 
 impl Answer {
-    fn right_where(is_right: bool) -> Answer {
-        if is_right {
-            Answer::Right
-        } else {
-            Answer::Wrong
+    /// Returns the answer of a call that found something right or wrong, or that had a fault.
+    fn of<E: PartialEq + Drop>(found: Result<bool, E>, no_memory: E) -> Answer {
+        match found {
+            Ok(true) => Answer::Right,
+            Err(fault) if fault == no_memory => Answer::NoMemory,
+            _ => Answer::Wrong,
         }
     }
 
-    /// Checks a count of two waiters and one notifier: it has three seats, and is closed at this
-    /// word.
-    fn of_count(counted: Result<(usize, u64), CountFault>) -> Answer {
-        match counted {
-            Ok(seats_and_word) => Answer::right_where(seats_and_word == (3, 0x3FFF)),
-            Err(CountFault::NoMemory) => Answer::NoMemory,
-            Err(CountFault::TooManyWaiters) => Answer::Wrong,
-        }
+    fn of_count(found: Result<bool, CountFault>) -> Answer {
+        Answer::of(found, CountFault::NoMemory)
     }
 
-    /// Checks a count with rows, two waiters and one notifier: it has three seats, and is closed at
-    /// this word.
-    fn of_row_count(counted: Result<(usize, u64), RowFault>) -> Answer {
-        match counted {
-            Ok(seats_and_word) => Answer::right_where(seats_and_word == (3, 0x3FFF)),
-            Err(RowFault::NoMemory) => Answer::NoMemory,
-            Err(RowFault::TooManyWaiters) | Err(RowFault::TooManyCredits) => Answer::Wrong,
-        }
+    fn of_rows(found: Result<bool, RowsFault>) -> Answer {
+        Answer::of(found, RowsFault::NoMemory)
     }
 
-    fn of_rows(answered: Result<bool, RowsFault>) -> Answer {
-        match answered {
-            Ok(is_right) => Answer::right_where(is_right),
-            Err(RowsFault::NoMemory) => Answer::NoMemory,
-            Err(RowsFault::TooManyRows) => Answer::Wrong,
-        }
-    }
-
-    fn of_memory(answered: Result<bool, AllocError>) -> Answer {
-        match answered {
-            Ok(is_right) => Answer::right_where(is_right),
-            Err(_) => Answer::NoMemory,
-        }
+    fn of_memory(found: Result<bool, AllocError>) -> Answer {
+        Answer::of(found, AllocError)
     }
 }
 
 /// Makes a call.
 pub(crate) fn make<R: Wait>(rt: &R, call: Call, heap: &Heap) -> Answer {
     match call {
-        Call::Barrier => barrier(heap),
+        Call::Barrier => Answer::of(barrier(heap), BarrierFault::NoMemory),
         Call::Notification => Answer::of_memory(notification(heap)),
         Call::EventCount => Answer::of_count(count(heap)),
         Call::EventCountAtTheLastEpoch => Answer::of_count(count_at_the_last(heap)),
         Call::EventCountAsPoint => Answer::of_count(point::<EventCount<&Heap>>(heap)),
         Call::LockedCount => Answer::of_count(point::<LockedCount<&Heap>>(heap)),
-        Call::RowCount => Answer::of_row_count(row_count(heap)),
+        Call::RowCount => Answer::of(row_count(heap), RowFault::NoMemory),
         Call::RowPoint => Answer::of_count(point::<RowPoint<&Heap>>(heap)),
         Call::World => Answer::of_memory(world(heap)),
         Call::Row => Answer::of_memory(row(heap)),
@@ -116,12 +94,9 @@ pub(crate) fn make<R: Wait>(rt: &R, call: Call, heap: &Heap) -> Answer {
 }
 
 /// Opens a barrier, whose first share must have all notices.
-fn barrier(heap: &Heap) -> Answer {
-    match Barrier::new(heap, 2) {
-        Ok((_barrier, _waiter, share)) => Answer::right_where(share.notices() == 2),
-        Err(BarrierFault::NoMemory) => Answer::NoMemory,
-        Err(BarrierFault::TooLarge) => Answer::Wrong,
-    }
+fn barrier(heap: &Heap) -> Result<bool, BarrierFault> {
+    let (_barrier, _waiter, share) = Barrier::new(heap, 2)?;
+    Ok(share.notices() == 2)
 }
 
 /// Opens a notification, whose share must have one notice.
@@ -130,27 +105,24 @@ fn notification(heap: &Heap) -> Result<bool, AllocError> {
     Ok(share.notices() == 1)
 }
 
-/// Returns how many seats a new event count has, and the word at which it is closed.
-fn count(heap: &Heap) -> Result<(usize, u64), CountFault> {
+/// Opens an event count at its first epoch, which must have three seats and be closed at one word.
+/// The three functions that follow open others.
+fn count(heap: &Heap) -> Result<bool, CountFault> {
     let (count, seats) = EventCount::new(heap, 2, 1)?;
-    Ok((seats.len(), count.close(seats)))
+    Ok((seats.len(), count.close(seats)) == (3, 0x3FFF))
 }
 
-/// Returns how many seats a new event count at its last epoch has, and the word at which it is
-/// closed.
-fn count_at_the_last(heap: &Heap) -> Result<(usize, u64), CountFault> {
+fn count_at_the_last(heap: &Heap) -> Result<bool, CountFault> {
     let (count, seats) = EventCount::new_at(heap, 2, 1, 4_194_303)?;
-    Ok((seats.len(), count.close(seats)))
+    Ok((seats.len(), count.close(seats)) == (3, 0x3FFF))
 }
 
-/// Returns how many seats a new wait point has, and the word at which it is closed.
-fn point<'h, P: WaitPoint<&'h Heap>>(heap: &'h Heap) -> Result<(usize, u64), CountFault> {
+fn point<'h, P: WaitPoint<&'h Heap>>(heap: &'h Heap) -> Result<bool, CountFault> {
     let (point, seats) = P::open(heap, 2, 1)?;
-    Ok((seats.len(), point.shut(seats)))
+    Ok((seats.len(), point.shut(seats)) == (3, 0x3FFF))
 }
 
-/// Returns how many seats a new count with three rows has, and the word at which it is closed.
-fn row_count(heap: &Heap) -> Result<(usize, u64), RowFault> {
+fn row_count(heap: &Heap) -> Result<bool, RowFault> {
     let sizes = RowSizes {
         waiters: 2,
         notifiers: 1,
@@ -159,7 +131,7 @@ fn row_count(heap: &Heap) -> Result<(usize, u64), RowFault> {
         credits: 65,
     };
     let (count, seats) = RowCount::new(heap, &sizes)?;
-    Ok((seats.len(), count.close(seats)))
+    Ok((seats.len(), count.close(seats)) == (3, 0x3FFF))
 }
 
 /// Opens a World with a row, and plays six events, which must leave one signal.

@@ -3,6 +3,7 @@
 ghost use Rattle.worker_pool.specs.Callers.{IsCaller, StaysCaller};
 
 use crate::kept_rows::KeptRows;
+use crate::splits::{Ends, Splits};
 use event_count::{EventCount, WaitPoint};
 use run_queue::{Rows, SlotRows};
 use std::alloc::Allocator;
@@ -34,45 +35,34 @@ pub(crate) struct Limited {
 
 /// Runs a pool over slots on the first jobs and on jobs that are scheduled once it is cancelled,
 /// and returns what it leaves.
-pub(crate) fn run_jobs<RT, J, A>(
+pub(crate) fn run_jobs<RT, A>(
     rt: &RT,
     alloc: A,
     pool: Limited,
-    ctx: &J::Ctx,
-    first: Vec<J>,
-    cancelled: Vec<J>,
-) -> Result<Closed<J, A>, PoolFault>
+    ends: &Ends,
+    first: Vec<Splits>,
+    cancelled: Vec<Splits>,
+) -> Result<Closed<Splits, A>, PoolFault>
 where
     RT: Threads + Wait + Sync,
-    J: Job<A> + Drop + Send,
-    J::Ctx: Sync,
-    J::Out: Drop + Send,
-    J::Abandoned: Send,
     A: Allocator + Clone + Send + Sync,
 {
     let setup = Setup {
         workers: pool.workers,
         partitions: Vec::new(alloc.clone()?),
     };
+    let starts = pool.starts;
     match pool.taken {
-        Taken::AnyTime => run_over::<EventCount<A>, SlotRows<J, A>, VecLists, RT, J, A>(
-            rt,
-            alloc,
-            &setup,
-            ctx,
-            pool.starts,
-            first,
-            cancelled,
-        ),
-        Taken::AtTheEnd => run_over::<EventCount<A>, KeptRows<SlotRows<J, A>>, VecLists, RT, J, A>(
-            rt,
-            alloc,
-            &setup,
-            ctx,
-            pool.starts,
-            first,
-            cancelled,
-        ),
+        Taken::AnyTime => {
+            run_over::<EventCount<A>, SlotRows<Splits, A>, VecLists, RT, Splits, A>(
+                rt, alloc, &setup, ends, starts, first, cancelled,
+            )
+        }
+        Taken::AtTheEnd => {
+            run_over::<EventCount<A>, KeptRows<SlotRows<Splits, A>>, VecLists, RT, Splits, A>(
+                rt, alloc, &setup, ends, starts, first, cancelled,
+            )
+        }
     }
 }
 

@@ -1,30 +1,24 @@
-//! Pools over any allocator, opened by each of the three calls. `pools.rt` runs them.
-ghost use Rattle.worker_pool.specs.Callers.{IsCaller, StaysCaller};
+//! Pools over any allocator that begin with a root. `pools.rt` runs them.
 
 use crate::splits::{Ends, Splits};
-use event_count::{LockedCount, WaitPoint};
-use run_queue::{LockedRows, Rows};
+use event_count::LockedCount;
+use run_queue::LockedRows;
 use std::alloc::Allocator;
 use std::sync::Wait;
 use std::sync::atomic::{AtomicU64, Ordering};
 use std::thread::Threads;
-use worker_pool::{
-    Caller, Closed, Job, Lists, NoGate, PoolFault, Setup, VecLists, with_counted_root, with_pool,
-    with_root,
-};
+use worker_pool::{Closed, NoGate, PoolFault, Setup, VecLists, with_counted_root, with_root};
 
 /// How a pool is opened.
 #[derive(Clone, Copy, Debug)]
 pub(crate) enum Entry {
-    /// By `with_pool`, whose body schedules the root.
-    Body,
     /// By `with_root`.
     Root,
     /// By `with_counted_root`.
     CountedRoot,
 }
 
-/// How often a pool called its body, or the function after its root, and how its jobs ended.
+/// How often a pool called the function after its root, and how its jobs ended.
 #[derive(Drop)]
 pub(crate) struct Counts {
     calls: AtomicU64,
@@ -63,50 +57,9 @@ where
     };
     let Counts { calls, ends } = counts;
     match entry {
-        Entry::Body => scheduled::<LockedCount<A>, LockedRows<Splits, A>, VecLists, RT, Splits, A>(
-            rt, alloc, &setup, ends, calls, root,
-        ),
         Entry::Root => planted(rt, alloc, &setup, ends, calls, root),
         Entry::CountedRoot => counted(rt, alloc, &setup, ends, calls, root),
     }
-}
-
-/// Runs the root in a pool whose body schedules it.
-fn scheduled<W, R, L, RT, J, A>(
-    rt: &RT,
-    alloc: A,
-    setup: &Setup<A>,
-    ctx: &J::Ctx,
-    calls: &AtomicU64,
-    root: J,
-) -> Result<Closed<J, A>, PoolFault>
-where
-    RT: Threads + Wait + Sync,
-    J: Job<A> + Drop + Send,
-    J::Ctx: Sync,
-    J::Out: Drop + Send,
-    J::Abandoned: Send,
-    A: Allocator + Clone + Send + Sync,
-    W: WaitPoint<A> + Sync,
-    W::Seat: Send,
-    R: Rows<J, A> + Sync,
-    R::Seat: Send,
-    L: Lists<J::Out, A>,
-{
-    with_pool::<W, R, L, RT, J, A, NoGate, _>(
-        rt,
-        alloc,
-        setup,
-        ctx,
-        &NoGate,
-        |caller: &mut Caller<'_, J, A, W, R, L>|
-            requires { IsCaller R.Rows W.WaitPoint J.Job L.Lists caller.old }
-            ensures { StaysCaller R.Rows W.WaitPoint J.Job L.Lists caller.old caller.new }
-        {
-            calls.fetch_add(1, Ordering::SeqCst);
-            caller.schedule(rt, root);
-        },
-    )
 }
 
 /// Runs the root by `with_root`.

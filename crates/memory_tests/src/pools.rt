@@ -20,8 +20,6 @@ const MOST_MORE: u64 = 64;
 /// count make 26. The stop word makes two, the coprimes and the states of the workers one each, and
 /// the lists of what comes home four.
 const OPENINGS: &[(Entry, u32, u64)] = &[
-    (Entry::Body, 1, 21),
-    (Entry::Body, 2, 22),
     (Entry::Root, 1, 21),
     (Entry::Root, 2, 22),
     (Entry::CountedRoot, 1, 34),
@@ -127,7 +125,7 @@ fn expect_all_ended<R: Abort>(rt: &R, pool: Opened, ran: &Ran) {
     assert!(rt; each_once && each_below, "{pool:?}");
 }
 
-/// If a pool is not opened, its body is not called, and no job takes a step.
+/// If a pool is not opened, nothing is called, and no job takes a step.
 #[test]
 fn each_allocation_of_an_opening(rt: HostRuntime) -> Result<(), Fail> {
     for &(entry, workers, takes) in OPENINGS {

@@ -4,70 +4,16 @@ use crate::refusing::Sparing;
 use crate::splits::{Ends, Splits};
 use std::alloc::{AllocError, Allocator, Global};
 use std::process::Abort;
-use std::sync::atomic::{AtomicU64, Ordering};
-use std::sync::{Arc, Wait};
+use std::sync::Wait;
 use std::test::Fail;
 use std::thread::Threads;
-use worker_pool::{BoxedJob, BoxedTask, Closed, Job, PoolFault, TaskOut};
+use worker_pool::{Closed, PoolFault};
 
 /// How many jobs are scheduled.
 const JOBS: u64 = 16;
 
 /// The most allocations that a pool is tried with. They suffice for its opening and for all jobs.
 const MOST: u64 = 64;
-
-/// A task that answers its tag, and counts that it ran.
-#[derive(Drop)]
-struct Counted {
-    tag: u64,
-    runs: Arc<AtomicU64>,
-}
-
-impl BoxedTask for Counted {
-    ghost use Rattle.std.specs.Prelude.{◌≡◌};
-
-    ghost tag_of = { λ task. task.tag };
-
-    ghost may_answer = { λ task answer. answer ≡ task.tag };
-
-    fn tag(&self) -> u64 {
-        self.tag
-    }
-
-    fn run(&mut self) -> u64 {
-        self.runs.fetch_add(1, Ordering::SeqCst);
-        self.tag
-    }
-}
-
-/// The number that distinguishes a job, or its out, from others.
-trait Placed {
-    fn place(&self) -> u64;
-}
-
-impl Placed for BoxedJob {
-    fn place(&self) -> u64 {
-        self.0.tag()
-    }
-}
-
-impl Placed for TaskOut {
-    fn place(&self) -> u64 {
-        self.tag
-    }
-}
-
-impl Placed for Splits {
-    fn place(&self) -> u64 {
-        self.place
-    }
-}
-
-impl Placed for u64 {
-    fn place(&self) -> u64 {
-        *self
-    }
-}
 
 /// What a pool leaves of jobs of one step.
 #[derive(Drop)]
@@ -78,42 +24,34 @@ struct Ended {
     outs: u64,
     left: u64,
     refused: u64,
-    // How many jobs ran, and how many were abandoned if this is known.
+    // How many jobs ran, and how many were abandoned.
     runs: u64,
-    abandons: Option<u64>,
+    abandons: u64,
 }
 
 /// Collects what a pool leaves.
-fn ended_of<J, A>(
+fn ended_of<A: Allocator>(
     alloc: Global,
-    closed: Result<Closed<J, A>, PoolFault>,
-    runs: u64,
-    abandons: Option<u64>,
-) -> Result<Ended, AllocError>
-where
-    J: Job<A> + Drop + Placed,
-    J::Out: Drop + Placed,
-    A: Allocator,
-{
+    closed: Result<Closed<Splits, A>, PoolFault>,
+    ends: &Ends,
+) -> Result<Ended, AllocError> {
     let mut ended = Ended {
         fault: None,
         places: Vec::new(alloc),
         outs: 0,
         left: 0,
         refused: 0,
-        runs,
-        abandons,
+        runs: ends.steps(),
+        abandons: ends.abandons(),
     };
     match closed {
         Ok(closed) => {
             for list in &closed.outs {
-                for out in list {
-                    ended.places.push(out.place())?;
-                }
+                ended.places.extend_from_slice(list)?;
             }
             ended.outs = ended.places.len() as u64;
             for job in &closed.left {
-                ended.places.push(job.place())?;
+                ended.places.push(job.place)?;
             }
             ended.places.sort_unstable();
             ended.left = closed.left.len() as u64;
@@ -122,36 +60,6 @@ where
         Err(fault) => ended.fault = Some(fault),
     }
     Ok(ended)
-}
-
-/// Returns tasks with the tags in `[tags.0, tags.1)`.
-fn tasks(
-    alloc: Global,
-    runs: &Arc<AtomicU64>,
-    tags: (u64, u64),
-) -> Result<Vec<BoxedJob>, AllocError> {
-    let mut jobs = Vec::new(alloc);
-    for tag in tags.0..tags.1 {
-        let runs = Arc::try_clone(runs)?;
-        jobs.push(BoxedJob(Box::new(alloc, Counted { tag, runs })?))?;
-    }
-    Ok(jobs)
-}
-
-/// Runs boxed tasks in a pool that gets the given number of allocations, and returns what it
-/// leaves.
-fn run_tasks<RT: Threads + Wait + Sync>(
-    rt: &RT,
-    alloc: Global,
-    allocations: u64,
-    pool: Limited,
-) -> Result<Ended, AllocError> {
-    let heap = Sparing::new(alloc, allocations);
-    let runs = Arc::new(alloc, AtomicU64::new(0))?;
-    let first = tasks(alloc, &runs, (0, pool.first))?;
-    let cancelled = tasks(alloc, &runs, (pool.first, JOBS))?;
-    let closed = run_jobs(rt, &heap, pool, &(), first, cancelled);
-    ended_of(alloc, closed, runs.load(Ordering::SeqCst), None)
 }
 
 /// Returns jobs for the places in `[places.0, places.1)`, which split off no others.
@@ -176,15 +84,14 @@ fn run_singles<RT: Threads + Wait + Sync>(
     let first = singles(alloc, (0, pool.first))?;
     let cancelled = singles(alloc, (pool.first, JOBS))?;
     let closed = run_jobs(rt, &heap, pool, &ends, first, cancelled);
-    ended_of(alloc, closed, ends.steps(), Some(ends.abandons()))
+    ended_of(alloc, closed, &ends)
 }
 
 /// Checks that each job ran once and has an out, or is left in a cancelled pool, or was refused. A
 /// job was abandoned exactly if it was refused.
 fn expect_each_once<R: Abort>(rt: &R, pool: Limited, ended: &Ended) {
     let jobs = (ended.places.len() as u64).checked_add(ended.refused);
-    let abandons = ended.abandons.unwrap_or(ended.refused);
-    let found = (jobs, ended.runs, abandons);
+    let found = (jobs, ended.runs, ended.abandons);
     let wanted = (Some(JOBS), ended.outs, ended.refused);
     assert_eq!(rt; found, wanted, "{pool:?}");
     let each_once = ended.places.windows(2).all(|pair| pair[0] < pair[1]);
@@ -218,25 +125,19 @@ fn each_allocation_of_jobs_and_a_cancel(rt: HostRuntime) -> Result<(), Fail> {
             first,
             taken,
         };
-        for are_boxed in [true, false] {
-            let mut is_opened = false;
-            for left in 0..=MOST {
-                let ended = if are_boxed {
-                    run_tasks(&rt, rt.alloc(), left, pool)?
-                } else {
-                    run_singles(&rt, rt.alloc(), left, pool)?
-                };
-                if ended.fault.is_none() {
-                    is_opened = true;
-                    expect_each_once(&rt, pool, &ended);
-                } else {
-                    let found = (ended.fault, ended.runs, is_opened);
-                    assert_eq!(rt; found, (Some(PoolFault::NoMemory), 0, false), "{pool:?}");
-                }
-                assert!(rt; ended.refused == 0 || left < MOST, "{pool:?}");
+        let mut is_opened = false;
+        for left in 0..=MOST {
+            let ended = run_singles(&rt, rt.alloc(), left, pool)?;
+            if ended.fault.is_none() {
+                is_opened = true;
+                expect_each_once(&rt, pool, &ended);
+            } else {
+                let found = (ended.fault, ended.runs, is_opened);
+                assert_eq!(rt; found, (Some(PoolFault::NoMemory), 0, false), "{pool:?}");
             }
-            assert!(rt; is_opened, "{pool:?}");
+            assert!(rt; ended.refused == 0 || left < MOST, "{pool:?}");
         }
+        assert!(rt; is_opened, "{pool:?}");
     }
     Ok(())
 }

@@ -5,19 +5,9 @@
 #[cfg(test)]
 mod barriers;
 #[cfg(test)]
-mod calls;
-#[cfg(test)]
-mod coprimes;
-#[cfg(test)]
 mod faults;
 #[cfg(test)]
-mod made;
-#[cfg(test)]
 mod pairs;
-#[cfg(test)]
-mod partitions;
-#[cfg(test)]
-mod row_count;
 #[cfg(test)]
 mod rows;
 #[cfg(test)]

@@ -5,12 +5,9 @@ ghost use Rattle.event_word.specs.declared.phase.Phase.TheVariants.{Pre};
 ghost use Rattle.event_count.specs.Seats.{card_of, sizes_of, IsSeatOf, IsIdle};
 
 use crate::told::expect;
-use event_count::{
-    Committed, EventCount, Phase, Seat, TryCancel, TryCommit, TryNotify, TryNotifyAll,
-};
+use event_count::{EventCount, Phase, Seat, TryCancel, TryCommit, TryNotify, TryNotifyAll};
 use std::alloc::Global;
 use std::process::Abort;
-use std::sync::Wait;
 
 /// The epoch of each seat's first push, in a count that is made by `new`.
 pub(crate) const FIRST_EPOCH: u32 = 0;
@@ -31,8 +28,6 @@ pub(crate) struct Sequence {
 /// What a seat does, and what it must find or return.
 #[derive(Clone, Copy)]
 pub(crate) enum Step {
-    /// The seat reports this phase and whether it has looked, and owes no unpark.
-    Says(Phase, bool),
     /// The seat looks, and finds this word.
     Looks(u64),
     /// The seat is running, and becomes a pre-waiter.
@@ -45,44 +40,30 @@ pub(crate) enum Step {
     TriesNotifyAll(TryNotifyAll),
     TriesToken(bool),
     TriesUnpark(Option<u16>),
-    /// The seat makes a call that may wait, like the three variants that follow.
-    Commits(Committed),
-    Cancels,
-    Notifies,
-    NotifiesAll,
 }
 
 /// Takes the step if the seat may, and returns whether it finds and returns what the step says.
-fn takes<R: Wait>(rt: &R, count: &EventCount, waiters: u16, seat: &mut Seat, step: Step) -> bool
+fn takes(count: &EventCount, waiters: u16, seat: &mut Seat, step: Step) -> bool
     requires of { IsSeatOf count.now seat.old }
     requires waiters { (sizes_of count.now).waiters ≡ waiters }
     ensures of { IsSeatOf count.now seat.new }
 {
     match step {
-        Step::Says(phase, looked) => {
-            (seat.phase(), seat.looked(), seat.owing()) == (phase, looked, false)
-        }
         Step::Looks(word) => count.look(seat) == word,
         Step::TriesUnpark(told) => count.try_unpark_next(seat) == told,
-        _ if is_idle(seat) => take_running(rt, count, waiters, seat, step),
+        _ if is_idle(seat) => take_running(count, waiters, seat, step),
         _ if seat.owing() => false,
         Step::TriesToken(told) if seat.phase() == Phase::Stacked => {
             count.try_take_token(seat) == told
         }
-        _ if seat.phase() == Phase::Pre => take_waiting(rt, count, seat, step),
+        _ if seat.phase() == Phase::Pre => take_waiting(count, seat, step),
         _ => false,
     }
 }
 
 /// Takes the step of a seat that is running and owes no unpark, and returns whether it finds and
 /// returns what the step says.
-fn take_running<R: Wait>(
-    rt: &R,
-    count: &EventCount,
-    waiters: u16,
-    seat: &mut Seat,
-    step: Step,
-) -> bool
+fn take_running(count: &EventCount, waiters: u16, seat: &mut Seat, step: Step) -> bool
     requires of { IsSeatOf count.now seat.old }
     requires waiters { (sizes_of count.now).waiters ≡ waiters }
     requires idle { IsIdle seat.old }
@@ -95,20 +76,12 @@ fn take_running<R: Wait>(
         }
         Step::TriesNotify(told) if seat.looked() => count.try_notify(seat) == told,
         Step::TriesNotifyAll(told) if seat.looked() => count.try_notify_all(seat) == told,
-        Step::Notifies => {
-            count.notify(rt, seat);
-            true
-        }
-        Step::NotifiesAll => {
-            count.notify_all(rt, seat);
-            true
-        }
         _ => false,
     }
 }
 
 /// Takes the step of a pre-waiter, and returns whether it returns what the step says.
-fn take_waiting<R: Wait>(rt: &R, count: &EventCount, seat: &mut Seat, step: Step) -> bool
+fn take_waiting(count: &EventCount, seat: &mut Seat, step: Step) -> bool
     requires of { IsSeatOf count.now seat.old }
     requires pre { (card_of seat.old).phase ≡ Pre }
     ensures of { IsSeatOf count.now seat.new }
@@ -116,22 +89,12 @@ fn take_waiting<R: Wait>(rt: &R, count: &EventCount, seat: &mut Seat, step: Step
     match step {
         Step::TriesCommit(told) if seat.looked() => count.try_commit(seat) == told,
         Step::TriesCancel(told) if seat.looked() => count.try_cancel(seat) == told,
-        Step::Commits(told) => count.commit(rt, seat) == told,
-        Step::Cancels => {
-            count.cancel(rt, seat);
-            true
-        }
         _ => false,
     }
 }
 
 /// Takes the steps of a sequence in turn, each by the seat at its number.
-fn take_each<R: Wait + Abort>(
-    rt: &R,
-    count: &EventCount,
-    sequence: &Sequence,
-    seats: &mut Vec<Seat>,
-)
+fn take_each<R: Abort>(rt: &R, count: &EventCount, sequence: &Sequence, seats: &mut Vec<Seat>)
     requires ours { All (IsSeatOf count.now) seats.old.items }
     requires waiters { (sizes_of count.now).waiters ≡ sequence.now.waiters }
     ensures ours { All (IsSeatOf count.now) seats.new.items }
@@ -143,7 +106,7 @@ fn take_each<R: Wait + Abort>(
         assert!(rt; at < seats.len());
         let seat = &mut seats[at];
         let is_numbered = seat.number() == u32::from(*number);
-        let is_taken = takes(rt, count, sequence.waiters, seat, *step);
+        let is_taken = takes(count, sequence.waiters, seat, *step);
         expect(rt, is_numbered && is_taken, sequence.name, place);
         place = place.saturating_add(1);
     }
@@ -158,7 +121,7 @@ fn is_idle(seat: &Seat) -> bool
 
 /// Runs a sequence on a new count. The test fails if a step finds or returns something unexpected,
 /// if a seat is not idle after the last step, or if the count is not closed at the initial word.
-pub(crate) fn run<R: Wait + Abort>(rt: &R, alloc: Global, sequence: &Sequence) {
+pub(crate) fn run<R: Abort>(rt: &R, alloc: Global, sequence: &Sequence) {
     let (waiters, notifiers) = (sequence.waiters, sequence.notifiers);
     assert!(rt; sequence.epoch <= LAST_EPOCH);
     let made = EventCount::new_at(alloc, waiters, notifiers, sequence.epoch);

@@ -1,75 +1,31 @@
-//! Tests of walks by given words.
+//! Worked examples of walks and of partitions.
 
 use std::alloc::Global;
 use std::process::Abort;
-use steal_walk::{Coprimes, Walk};
+use steal_walk::{Coprimes, Partition, PartitionFault, Walk};
 
-/// A word, the range of rows of a walk that the word picks, and these rows in the order of the
-/// walk.
-struct Course {
-    word: u32,
-    start: u32,
-    limit: u32,
-    rows: &'static [u32],
-}
-
-const HALF: u32 = 1 << 31;
-
-const COURSES: [Course; 4] = [
-    Course {
-        word: HALF,
-        start: 0,
-        limit: 6,
-        rows: &[3, 2, 1, 0, 5, 4],
-    },
-    Course {
-        word: 0,
-        start: 0,
-        limit: 6,
-        rows: &[0, 1, 2, 3, 4, 5],
-    },
-    Course {
-        word: u32::MAX,
-        start: 10,
-        limit: 16,
-        rows: &[15, 14, 13, 12, 11, 10],
-    },
-    Course {
-        word: 0,
-        start: u32::MAX - 2,
-        limit: u32::MAX,
-        rows: &[u32::MAX - 2, u32::MAX - 1],
-    },
-];
-
-/// Returns whether a walk yields these rows, reports before each how many are left, and then yields
-/// none.
-fn goes<R: Abort>(rt: &R, alloc: Global, course: &Course) -> bool {
-    let Course {
-        word,
-        start,
-        limit,
-        ..
-    } = *course;
-    assert!(rt; start < limit);
-    let Ok(coprimes) = Coprimes::new(alloc, limit - start) else {
+/// Checks the coprimes of a number, and the order in which a word of 2^31 visits as many rows.
+fn expect_walk<R: Abort>(rt: &R, alloc: Global, count: u32, numbers: &[u32], rows: &[u32]) {
+    assert!(rt; count > 0);
+    let Ok(coprimes) = Coprimes::new(alloc, count) else {
         panic!(rt; "no coprimes")
     };
-    let mut walk = Walk::of(word, start, limit, &coprimes);
-    let mut is_right = true;
-    let mut left = course.rows.len();
-    for row in course.rows {
-        is_right = is_right && walk.size_hint() == (left, Some(left)) && walk.len() == left;
-        is_right = is_right && walk.next() == Some(*row);
-        left = left.saturating_sub(1);
-    }
-    is_right && walk.len() == 0 && walk.next().is_none() && walk.next().is_none()
+    assert!(rt; coprimes.numbers() == numbers, "of {count}");
+    let walk = Walk::of(1 << 31, 0, count, &coprimes);
+    assert!(rt; walk.eq(rows.iter().copied()), "over {count}");
 }
 
 #[test]
-fn worked_walks(rt: HostRuntime) {
-    for course in &COURSES {
-        let (word, start) = (course.word, course.start);
-        assert!(rt; goes(&rt, rt.alloc(), course), "{word} from {start}");
-    }
+fn coprimes_and_walks(rt: HostRuntime) {
+    expect_walk(&rt, rt.alloc(), 6, &[1, 5], &[3, 2, 1, 0, 5, 4]);
+    expect_walk(&rt, rt.alloc(), 1, &[1], &[0]);
+}
+
+#[test]
+fn partitions_of_four_rows(rt: HostRuntime) {
+    let empty = Partition::new(0, 0, 4).err();
+    let outside = Partition::new(2, 5, 4).err();
+    assert!(rt; empty == Some(PartitionFault::Empty));
+    assert!(rt; outside == Some(PartitionFault::OutOfPool));
+    assert!(rt; Partition::new(2, 4, 4).is_ok());
 }

@@ -26,63 +26,45 @@ const EPOCHS: u32 = 4_194_304;
 
 const NONE_WAITING: u64 = 0x3FFF;
 
-const PUSHED_AT_1: AfterCommit = AfterCommit::Pushed {
-    word: 0x400_0000_0000,
-    next: 0x3FFF,
+const CONSUMED: AfterCommit = AfterCommit::Consumed(NONE_WAITING);
+
+const PUSHED: AfterCommit = AfterCommit::Pushed {
+    word: 0,
+    next: NONE_WAITING,
 };
 
-const WORDS: &[(&str, u64, Step)] = &[
-    ("the first prewait", NONE_WAITING, Step::Prewaits(0x7FFF)),
-    (
-        "a signal",
-        0x7FFF,
-        Step::Notifies(AfterNotify::Signalled(0x1000_7FFF)),
-    ),
-    (
-        "a commit with a signal",
-        0x1000_7FFF,
-        Step::Commits(0, AfterCommit::Consumed(0x3FFF)),
-    ),
-    (
-        "a push",
-        0x7FFF,
-        Step::Commits(
-            0,
-            AfterCommit::Pushed {
-                word: 0,
-                next: 0x3FFF,
-            },
-        ),
-    ),
-    ("a push at epoch 1", 0x7FFF, Step::Commits(1, PUSHED_AT_1)),
-    ("a top", 0, Step::Notifies(AfterNotify::Pop(0))),
-    ("a pop", 0, Step::Pops(NONE_WAITING, NONE_WAITING)),
-    (
-        "a top, two pre-waiters and an epoch",
-        0xC00_0000_8001,
-        Step::Unpacks(Fields {
-            top: 1,
-            pre: 2,
-            signals: 0,
-            epoch: 3,
-        }),
-    ),
-    (
-        "a notification of all of these",
-        0xC00_0000_8001,
-        Step::NotifiesAll(AfterNotifyAll::Taken {
-            word: 0x2000_BFFF,
-            top: 1,
-        }),
-    ),
-    (
-        "a notification of nobody",
-        NONE_WAITING,
-        Step::NotifiesAll(AfterNotifyAll::Nothing),
-    ),
+const PUSHED_AT_1: AfterCommit = AfterCommit::Pushed {
+    word: 0x400_0000_0000,
+    next: NONE_WAITING,
+};
+
+/// A top, two pre-waiters and an epoch.
+const FIELDS: Fields = Fields {
+    top: 1,
+    pre: 2,
+    signals: 0,
+    epoch: 3,
+};
+
+const TAKEN: AfterNotifyAll = AfterNotifyAll::Taken {
+    word: 0x2000_BFFF,
+    top: 1,
+};
+
+const WORDS: &[(u64, Step)] = &[
+    (NONE_WAITING, Step::Prewaits(0x7FFF)),
+    (0x7FFF, Step::Notifies(AfterNotify::Signalled(0x1000_7FFF))),
+    (0x1000_7FFF, Step::Commits(0, CONSUMED)),
+    (0x7FFF, Step::Commits(0, PUSHED)),
+    (0x7FFF, Step::Commits(1, PUSHED_AT_1)),
+    (0, Step::Notifies(AfterNotify::Pop(0))),
+    (0, Step::Pops(NONE_WAITING, NONE_WAITING)),
+    (0xC00_0000_8001, Step::Unpacks(FIELDS)),
+    (0xC00_0000_8001, Step::NotifiesAll(TAKEN)),
+    (NONE_WAITING, Step::NotifiesAll(AfterNotifyAll::Nothing)),
     // There are two pre-waiters and one signal.
-    ("a cancel", 0x1000_BFFF, Step::Cancels(0x1000_7FFF)),
-    ("a second cancel", 0x1000_7FFF, Step::Cancels(NONE_WAITING)),
+    (0x1000_BFFF, Step::Cancels(0x1000_7FFF)),
+    (0x1000_7FFF, Step::Cancels(NONE_WAITING)),
 ];
 
 /// Returns whether the step may be taken, and makes of the word what it says.
@@ -103,7 +85,7 @@ fn is_right(word: u64, step: Step) -> bool {
 
 #[test]
 fn worked_words(rt: HostRuntime) {
-    for &(name, word, step) in WORDS {
-        assert!(rt; is_right(word, step), "{name}");
+    for &(word, step) in WORDS {
+        assert!(rt; is_right(word, step), "of {word}");
     }
 }

@@ -1,11 +1,9 @@
-//! Tests of pools that are opened, worked in and closed, of tasks as jobs, and of a caller's own
-//! rows and wait points. README.md says which table a new test is a row of.
+//! Tests of pools that are opened, worked in and closed, also over a caller's own rows and wait
+//! points. README.md says which table a new test is a row of.
 #![tactic(auto)]
 
 #[cfg(test)]
 mod bodies;
-#[cfg(test)]
-mod lists;
 #[cfg(test)]
 mod own_rows;
 #[cfg(test)]

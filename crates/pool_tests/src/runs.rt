@@ -64,15 +64,17 @@ pub(crate) fn run_tasks<RT: Threads + Wait + Sync>(
             first,
             cancelled,
         ),
-        Kind::OwnRows => run_all::<LockedCount, OwnRows, VecLists, RT, BoxedJob>(
-            rt,
-            alloc,
-            setup,
-            &(),
-            watch,
-            first,
-            cancelled,
-        ),
+        Kind::OwnRows => {
+            run_all::<LockedCount, OwnRows<LockedRows<BoxedJob>>, VecLists, RT, BoxedJob>(
+                rt,
+                alloc,
+                setup,
+                &(),
+                watch,
+                first,
+                cancelled,
+            )
+        }
     }
 }
 

@@ -1,10 +1,9 @@
 //! Tests of pools that stay open between calls, over one count and over slots.
 use crate::setups::setup_of;
-use crate::trees::{Tree, first_wrong};
+use crate::trees::{Tree, expect_leaves};
 use event_count::EventCount;
 use run_queue::SlotRows;
 use std::alloc::Global;
-use std::process::Abort;
 use std::sync::Wait;
 use std::test::Fail;
 use std::thread::Threads;
@@ -56,37 +55,6 @@ where
     Ok((pool.close(rt), started))
 }
 
-/// Checks that a pool leaves each leaf of its trees once, in a list for each of its workers and one
-/// for the opener.
-fn expect_leaves<RT>(
-    rt: &RT,
-    alloc: Global,
-    (workers, height, leaves): (u32, u32, u64),
-) -> Result<(), Fail>
-where
-    RT: Threads + Wait + Abort + Copy + Send + 'static,
-{
-    let setup = setup_of(alloc, workers, &[])?;
-    let (closed, started) = grow_all(rt, alloc, &setup, height)?;
-    let lists = closed.outs.len() as u64;
-    let rest = (closed.left.len(), closed.refused);
-    let mut places = Vec::new(alloc);
-    for list in closed.outs {
-        places.extend(list)?;
-    }
-    places.sort_unstable();
-    let found = (
-        started,
-        lists,
-        places.len() as u64,
-        rest,
-        first_wrong(&places),
-    );
-    let wanted = (workers, u64::from(workers) + 1, leaves, (0, 0), None);
-    assert_eq!(rt; found, wanted, "height {height} on {workers} workers");
-    Ok(())
-}
-
 /// The workers of pools, the height of the trees in each, and how many leaves the trees have.
 const POOLS: &[(u32, u32, u64)] = &[
     (1, 0, 3),
@@ -99,8 +67,11 @@ const POOLS: &[(u32, u32, u64)] = &[
 
 #[test]
 fn each_leaf_of_trees_in_a_standing_pool(rt: HostRuntime) -> Result<(), Fail> {
-    for &pool in POOLS {
-        expect_leaves(&rt, rt.alloc(), pool)?;
+    for &(workers, height, leaves) in POOLS {
+        let setup = setup_of(rt.alloc(), workers, &[])?;
+        let (closed, started) = grow_all(&rt, rt.alloc(), &setup, height)?;
+        assert_eq!(rt; started, workers);
+        expect_leaves(&rt, rt.alloc(), closed, (workers, leaves))?;
     }
     Ok(())
 }

@@ -1,9 +1,8 @@
-//! The tasks of the tests' pools, and a test of a task as a job.
+//! The tasks of the tests' pools.
 use std::alloc::{AllocError, Global};
 use std::sync::Arc;
 use std::sync::atomic::{AtomicU64, Ordering};
-use std::test::Fail;
-use worker_pool::{BoxedJob, BoxedTask, Job, Progress, TaskOut};
+use worker_pool::{BoxedJob, BoxedTask, TaskOut};
 
 /// How often a task looks whether the other task has come.
 const LOOKS: u64 = 200_000_000;
@@ -114,27 +113,4 @@ pub(crate) fn meeting(alloc: Global) -> Result<Vec<BoxedJob>, AllocError> {
         jobs.push(BoxedJob(Box::new(alloc, task)?))?;
     }
     Ok(jobs)
-}
-
-/// Takes the first step of a job of any kind.
-fn step_of<J: Job<Global>>(
-    alloc: Global,
-    ctx: &J::Ctx,
-    job: J,
-) -> Result<Progress<J, J::Out>, AllocError> {
-    job.step(alloc, ctx)
-}
-
-/// A task is run once, and its out has the tag from before the run. An abandoned task is not run.
-#[test]
-fn a_task_is_run_once(rt: HostRuntime) -> Result<(), Fail> {
-    let job = job_of(rt.alloc(), 7)?;
-    assert_eq!(rt; <BoxedJob as Job<Global>>::weight(&job), 0);
-    match step_of(rt.alloc(), &(), job)? {
-        Progress::Done(out) => assert_eq!(rt; out, TaskOut { tag: 7, answer: 70 }),
-        Progress::Fork { .. } => assert!(rt; false, "a task has no kids"),
-    }
-    let abandoned = <BoxedJob as Job<Global>>::abandon(job_of(rt.alloc(), 7)?, &());
-    assert_eq!(rt; abandoned.0.tag(), 7);
-    Ok(())
 }

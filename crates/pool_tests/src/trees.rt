@@ -2,7 +2,6 @@
 use crate::bodies::run_all;
 use crate::setups::setup_of;
 use crate::watch::{Watch, Way};
-use crate::worn::Worn;
 use event_count::{EventCount, LockedCount};
 use run_queue::{LockedRows, SlotRows};
 use std::alloc::{AllocError, Global};
@@ -61,9 +60,6 @@ pub(crate) enum Kind {
     Counted,
     UnderLocks,
     OverSlots,
-    /// Opened by `with_pool`, over slots, with a wait point at which each worker can sleep at most
-    /// once.
-    Worn,
 }
 
 /// Runs a tree of this height in a pool, and returns what the pool leaves.
@@ -111,15 +107,6 @@ pub(crate) fn grow<RT: Threads + Wait + Sync>(
             first,
             none,
         ),
-        Kind::Worn => run_all::<Worn, SlotRows<Tree>, VecLists, RT, Tree>(
-            rt,
-            alloc,
-            setup,
-            &(),
-            &watch,
-            first,
-            none,
-        ),
         _ => run_all::<LockedCount, LockedRows<Tree>, VecLists, RT, Tree>(
             rt,
             alloc,
@@ -133,7 +120,7 @@ pub(crate) fn grow<RT: Threads + Wait + Sync>(
 }
 
 /// Returns the first place that is not the next leaf's.
-pub(crate) fn first_wrong(places: &[u64]) -> Option<u64> {
+fn first_wrong(places: &[u64]) -> Option<u64> {
     let mut next = 0u64;
     for place in places {
         if *place != next {
@@ -144,18 +131,14 @@ pub(crate) fn first_wrong(places: &[u64]) -> Option<u64> {
     None
 }
 
-/// Checks that a pool leaves each leaf of a tree once, in a list for each of its workers and one
-/// for the caller.
-fn expect_leaves<RT>(
-    rt: &RT,
+/// Checks that a pool leaves each of its leaves once, in a list for each of its workers and one
+/// for the opener.
+pub(crate) fn expect_leaves<R: Abort>(
+    rt: &R,
     alloc: Global,
-    (name, kind, workers, height, leaves): (&str, Kind, u32, u32, u64),
-) -> Result<(), Fail>
-where
-    RT: Threads + Wait + Abort + Sync,
-{
-    let setup = setup_of(alloc, workers, &[])?;
-    let closed = grow(rt, alloc, kind, &setup, height)?;
+    closed: Closed<Tree>,
+    (workers, leaves): (u32, u64),
+) -> Result<(), Fail> {
     let lists = closed.outs.len() as u64;
     let rest = (closed.left.len(), closed.refused);
     let mut places = Vec::new(alloc);
@@ -165,70 +148,60 @@ where
     places.sort_unstable();
     let found = (lists, places.len() as u64, rest, first_wrong(&places));
     let wanted = (u64::from(workers) + 1, leaves, (0, 0), None);
-    assert_eq!(rt; found, wanted, "{name} on {workers} workers");
+    assert_eq!(rt; found, wanted, "{leaves} leaves on {workers} workers");
     Ok(())
 }
 
-/// Names, kinds of pools, their workers, the heights of their trees, how many leaves these have,
-/// and how often a pool is opened for them.
-const TREES: &[(&str, Kind, u32, u32, u64, u32)] = &[
-    ("scheduled", Kind::UnderLocks, 1, 16, 65_536, 1),
-    ("scheduled", Kind::UnderLocks, 2, 16, 65_536, 1),
-    ("scheduled", Kind::UnderLocks, 64, 16, 65_536, 1),
-    ("planted", Kind::Planted, 1, 16, 65_536, 1),
-    ("planted", Kind::Planted, 2, 16, 65_536, 1),
-    ("planted", Kind::Planted, 64, 16, 65_536, 1),
-    ("over one count", Kind::Counted, 1, 16, 65_536, 1),
-    ("over one count", Kind::Counted, 2, 16, 65_536, 1),
-    ("over one count", Kind::Counted, 64, 16, 65_536, 1),
-    (
-        "a million over one count",
-        Kind::Counted,
-        8,
-        20,
-        1_048_576,
-        1,
-    ),
-    ("a million over slots", Kind::OverSlots, 8, 20, 1_048_576, 1),
-    (
-        "a million under locks",
-        Kind::UnderLocks,
-        8,
-        20,
-        1_048_576,
-        1,
-    ),
-    ("without sleep", Kind::Worn, 4, 12, 4_096, 1),
-    ("again and again", Kind::OverSlots, 1, 0, 1, 10_000),
-    ("again and again", Kind::Counted, 1, 0, 1, 10_000),
+/// A kind of pool, its workers, the height of its tree, how many leaves this has, and how often a
+/// pool is opened for it.
+type Grown = (Kind, u32, u32, u64, u32);
+
+const TREES: &[Grown] = &[
+    (Kind::UnderLocks, 1, 16, 65_536, 1),
+    (Kind::UnderLocks, 2, 16, 65_536, 1),
+    (Kind::UnderLocks, 64, 16, 65_536, 1),
+    (Kind::Planted, 1, 16, 65_536, 1),
+    (Kind::Planted, 2, 16, 65_536, 1),
+    (Kind::Planted, 64, 16, 65_536, 1),
+    (Kind::Counted, 1, 16, 65_536, 1),
+    (Kind::Counted, 2, 16, 65_536, 1),
+    (Kind::Counted, 64, 16, 65_536, 1),
+    (Kind::Counted, 8, 20, 1_048_576, 1),
+    (Kind::OverSlots, 8, 20, 1_048_576, 1),
+    (Kind::UnderLocks, 8, 20, 1_048_576, 1),
+    (Kind::OverSlots, 1, 0, 1, 10_000),
+    (Kind::Counted, 1, 0, 1, 10_000),
 ];
 
-#[test]
-fn each_leaf_of_trees(rt: HostRuntime) -> Result<(), Fail> {
-    for &(name, kind, workers, height, leaves, times) in TREES {
+/// Runs the trees of a table.
+fn expect_trees<RT>(rt: &RT, alloc: Global, trees: &[Grown]) -> Result<(), Fail>
+where
+    RT: Threads + Wait + Abort + Sync,
+{
+    for &(kind, workers, height, leaves, times) in trees {
+        let setup = setup_of(alloc, workers, &[])?;
         for _ in 0..times {
-            let tree = (name, kind, workers, height, leaves);
-            expect_leaves(&rt, rt.alloc(), tree)?;
+            let closed = grow(rt, alloc, kind, &setup, height)?;
+            expect_leaves(rt, alloc, closed, (workers, leaves))?;
         }
     }
     Ok(())
 }
 
-/// The workers of pools, and how often a pool is opened for one leaf.
-const OPENINGS: &[(u32, u32)] = &[
-    (2, 10_000),
-    // Fewer times, since starting 256 threads takes longest.
-    (256, 100),
+#[test]
+fn each_leaf_of_trees(rt: HostRuntime) -> Result<(), Fail> {
+    expect_trees(&rt, rt.alloc(), TREES)
+}
+
+/// Pools that are opened for one leaf. The last one is opened fewer times, since starting 256
+/// threads takes longest.
+const OPENINGS: &[Grown] = &[
+    (Kind::OverSlots, 2, 0, 1, 10_000),
+    (Kind::OverSlots, 256, 0, 1, 100),
 ];
 
 /// A test of its own, since a single test of all openings would take too long.
 #[test]
 fn pools_that_are_opened_again_and_again(rt: HostRuntime) -> Result<(), Fail> {
-    for &(workers, times) in OPENINGS {
-        for _ in 0..times {
-            let leaf = ("a leaf over slots", Kind::OverSlots, workers, 0, 1);
-            expect_leaves(&rt, rt.alloc(), leaf)?;
-        }
-    }
-    Ok(())
+    expect_trees(&rt, rt.alloc(), OPENINGS)
 }

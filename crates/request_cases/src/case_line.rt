@@ -1,8 +1,6 @@
 //! The lines of a file of cases, by how they begin. Another kind of line needs an arm in `take` of
 //! `cases.rt`, and a word in README.md.
 
-use crate::case_version::CaseVersion;
-
 /// A line of a file of cases.
 #[derive(Clone, Copy, Drop)]
 pub(crate) enum CaseLine<'t> {
@@ -11,7 +9,7 @@ pub(crate) enum CaseLine<'t> {
     /// A name and the text that it stands for from there on.
     Let(&'t str),
     /// The version of the expressions from there on.
-    Version(CaseVersion),
+    Version(u32),
     /// The cases from there to the end of the file are too large to be answered place by place.
     Large,
     /// The inputs of the expressions from there on.
@@ -31,9 +29,9 @@ impl<'t> CaseLine<'t> {
         } else if let Some(named) = line.strip_prefix("let ") {
             CaseLine::Let(named)
         } else if line == "version 1" {
-            CaseLine::Version(CaseVersion::One)
+            CaseLine::Version(1)
         } else if line == "version 2" {
-            CaseLine::Version(CaseVersion::Two)
+            CaseLine::Version(2)
         } else if line == "large" {
             CaseLine::Large
         } else if let Some(inputs) = line.strip_prefix("inputs ") {

@@ -2,7 +2,6 @@
 
 use crate::answers::{answer, by_places, by_ranges};
 use crate::case_line::CaseLine;
-use crate::case_version::CaseVersion;
 use std::alloc::{AllocError, Global};
 use std::sync::Wait;
 use std::thread::Threads;
@@ -35,7 +34,7 @@ pub(crate) struct Cases {
     pub(crate) report: String,
     /// Names in angle brackets, each with the text that it stands for.
     names: Vec<(String, String)>,
-    version: CaseVersion,
+    version: u32,
     /// Whether the cases are not answered place by place.
     is_large: bool,
     inputs: String,
@@ -50,7 +49,7 @@ impl Cases {
             count: 0,
             report: String::new(alloc),
             names: Vec::new(alloc),
-            version: CaseVersion::One,
+            version: 1,
             is_large: false,
             inputs: String::new(alloc),
             asked: Asked::Text(String::new(alloc)),
@@ -208,7 +207,7 @@ impl Cases {
 
     /// Returns the text of a request for an expression over the last inputs.
     fn request(&self, expr: &str, workers: u32, block: u32) -> Result<String, AllocError> {
-        let (version, inputs) = (self.version.number(), self.inputs.as_str());
+        let (version, inputs) = (self.version, self.inputs.as_str());
         let head = format!(in self.alloc; "\"version\":{version},\"workers\":{workers}")?;
         let head = head.as_str();
         format!(in self.alloc; "{{{head},\"block\":{block},\"inputs\":{inputs},\"expr\":{expr}}}")

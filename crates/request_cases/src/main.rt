@@ -5,7 +5,6 @@
 
 mod answers;
 mod case_line;
-mod case_version;
 mod cases;
 
 use crate::cases::Cases;

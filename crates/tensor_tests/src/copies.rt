@@ -15,71 +15,28 @@ use std::thread::Threads;
 use tensor_ops::{Expr, Node, eval_plain};
 use tensor_runner::eval;
 
-/// The inputs of a case.
-#[derive(Clone, Copy)]
-enum Over {
-    Three,
-    Scalar,
-    Two,
-}
-
-impl Over {
-    /// Returns the version of the request, the inputs as JSON, and how many there are.
-    fn parts(self) -> (u32, &'static str, u32) {
-        match self {
-            Over::Three => (2, THREE, 3),
-            Over::Scalar => (1, SCALAR, 1),
-            Over::Two => (1, TWO, 2),
-        }
-    }
-}
-
-const THREE: &str = concat!(
-    r#"{"a":{"dims":[2,3],"data":[1,-4,2,5,-3,6]},"#,
-    r#""b":{"dims":[2,3],"data":[7,0,2,-1,9,6]},"#,
-    r#""k":{"dims":[2],"data":[10,1]}}"#
+const INPUTS: &str = concat!(
+    r#"{"b":{"dims":[3,2],"data":[1,3,5,2,4,6]},"#,
+    r#""a":{"dims":[2,3],"data":[1,4,2,5,3,6]},"k":{"dims":[2],"data":[10,1]}}"#
 );
 
-const SCALAR: &str = r#"{"a":{"dims":[],"data":[5]}}"#;
-
-const TWO: &str = r#"{"b":{"dims":[2],"data":[1,2]},"a":{"dims":[2],"data":[30,40]}}"#;
-
-/// Cases: the inputs, an expression, and the dims and values of its tensor. The expressions have
-/// nodes with one, two and three operands, and one is only an input.
-const TENSORS: &[(Over, &str, &[u64], &[i64])] = &[
+/// Expressions, and the dims and values of their tensors. Their nodes have no operand, one, two and
+/// three.
+const TENSORS: &[(&str, &[u64], &[i64])] = &[
+    (r#""k""#, &[2], &[10, 1]),
+    (r#"["shuffle","b",[1,0]]"#, &[2, 3], &[1, 2, 3, 4, 5, 6]),
+    (r#"["maximum","a",[1]]"#, &[2], &[3, 6]),
     (
-        Over::Three,
-        r#"["shuffle","a",[1,0]]"#,
-        &[3, 2],
-        &[1, 2, -3, -4, 5, 6],
-    ),
-    (Over::Three, r#"["maximum","a",[1]]"#, &[2], &[2, 6]),
-    (
-        Over::Three,
-        r#"["sub","a","b"]"#,
-        &[2, 3],
-        &[-6, -4, 0, 6, -12, 0],
-    ),
-    (
-        Over::Three,
-        r#"["contract","k","a",[[0,0]]]"#,
-        &[3],
-        &[6, 25, -24],
-    ),
-    (
-        Over::Three,
-        r#"["convolve","a","k",[1]]"#,
+        r#"["contract","a","b",[[1,0]]]"#,
         &[2, 2],
-        &[12, -35, 17, 56],
+        &[22, 49, 28, 64],
     ),
+    (r#"["convolve","a","k",[1]]"#, &[2, 2], &[12, 45, 23, 56]),
     (
-        Over::Three,
-        r#"["select",["lt","a","b"],["neg",["add","a","b"]],["constant","a",5]]"#,
-        &[2, 3],
-        &[-8, 4, 5, 5, -6, 5],
+        r#"["select",["lt","k",["constant","k",5]],["neg",["add","k","k"]],"k"]"#,
+        &[2],
+        &[10, -2],
     ),
-    (Over::Scalar, r#""a""#, &[], &[5]),
-    (Over::Two, r#"["add",["add","a","b"],"b"]"#, &[2], &[32, 44]),
 ];
 
 /// Copies an expression node by node.
@@ -117,41 +74,30 @@ fn plainly_has(
     Ok(())
 }
 
-/// Reads the request of an expression.
-fn asked(alloc: Global, over: Over, expr: &str) -> Result<Request, Fail>
-    ensures { IfOk result IsUnbound }
-{
-    let (version, inputs, _) = over.parts();
-    let text = request(alloc, version, inputs, expr)?;
-    Ok(read_request(alloc, text.as_bytes())?)
-}
-
-/// Asserts that an expression has these dims and values: evaluated by workers, on one thread, and
-/// as a copy.
+/// Asserts that an expression has these dims and values: evaluated by workers, and on one thread as
+/// a copy.
 fn has_values<RT: Threads + Wait + Abort + Sync>(
     rt: &RT,
     alloc: Global,
-    over: Over,
     expr: &str,
     sizes: &[u64],
     values: &[i64],
 ) -> Result<(), Fail> {
-    let request = asked(alloc, over, expr)?;
-    let (_, _, count) = over.parts();
+    let text = request(alloc, 2, INPUTS, expr)?;
+    let request = read_request(alloc, text.as_bytes())?;
     let numbers = (request.workers, request.block, request.inputs.len());
-    expect(rt, expr, &numbers, &(2, 4, count));
+    expect(rt, expr, &numbers, &(2, 4, 3));
     let tensor = eval(rt, alloc, &request)?;
     expect(rt, expr, &tensor.dims().as_slice(), &sizes);
     expect(rt, expr, &tensor.values(), &values);
-    plainly_has(rt, alloc, &request, &request.expr, sizes, values)?;
     let copy = copied(alloc, &request.expr)?;
     plainly_has(rt, alloc, &request, &copy, sizes, values)
 }
 
 #[test]
 fn tensors_of_requests_and_their_copies(rt: HostRuntime) -> Result<(), Fail> {
-    for &(over, expr, sizes, values) in TENSORS {
-        has_values(&rt, rt.alloc(), over, expr, sizes, values)?;
+    for &(expr, sizes, values) in TENSORS {
+        has_values(&rt, rt.alloc(), expr, sizes, values)?;
     }
     Ok(())
 }

@@ -1,5 +1,5 @@
-//! Tests of dims, expressions and plans by single calls, and of the whole way from the bytes of a
-//! request text to the line that answers it.
+//! Tests of expressions and plans by single calls, and of the whole way from the bytes of a request
+//! text to the line that answers it.
 //!
 //! A case that is only a text and its answer belongs in `request_cases`. Here are texts that no
 //! file of cases can hold, and streams that give or take few bytes, or fail.
@@ -12,11 +12,7 @@ mod copies;
 #[cfg(test)]
 mod deadlines;
 #[cfg(test)]
-mod dims;
-#[cfg(test)]
 mod faults;
-#[cfg(test)]
-mod fills;
 #[cfg(test)]
 mod lines;
 #[cfg(test)]
@@ -24,19 +20,11 @@ mod parts;
 #[cfg(test)]
 mod plans;
 #[cfg(test)]
-mod requests;
-#[cfg(test)]
-mod result_dims;
-#[cfg(test)]
 mod runs;
 #[cfg(test)]
 mod shards;
 #[cfg(test)]
-mod step_kernels;
-#[cfg(test)]
 mod streams;
-#[cfg(test)]
-mod tensors;
 #[cfg(test)]
 mod texts;
 #[cfg(test)]

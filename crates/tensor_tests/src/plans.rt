@@ -1,22 +1,24 @@
-//! Tests of plans: how many steps an expression has, and that the last step gives its tensor. A
-//! change of what is a step in `tensor_reduce` changes the counts here.
+//! Tests of plans: how many steps an expression has, what `run_plan` makes of them, and the values
+//! of a last step by its kernel and its evaluator. A change of what is a step in `tensor_reduce`
+//! changes the counts here.
 
-ghost use Rattle.std.specs.Prelude.{◌≡◌, ◌+◌, ◌<◌, ◌^◌, length, IfOk, OnOk, IsTrue};
+ghost use Rattle.std.specs.Prelude.{◌≡◌, ◌++◌, length, IfOk, IsTrue};
 ghost use Rattle.tensor_ops.specs.Legal.{widest};
-ghost use Rattle.tensor_ops.specs.Sequence.{worked_out};
-ghost use Rattle.tensor_reduce.specs.Plan.{terms_in, AreReady};
+ghost use Rattle.tensor_reduce.specs.Plan.{IsReady};
 ghost use Rattle.tensor_reduce.specs.Term.{has_inputs};
 ghost use Rattle.tensor_reduce.specs.Tree.{term_of};
 
 use crate::told::expect;
 use std::alloc::{AllocError, Global};
 use std::process::Abort;
+use std::sync::Wait;
 use std::test::Fail;
+use std::thread::Threads;
 use tensor_ops::{
-    Binary, BinaryScalar, Dims, Expr, Inputs, Reducer, Tensor, Unary, UnaryScalar, WIDEST,
-    eval_plain,
+    Binary, BinaryScalar, Dims, Expr, Inputs, Reducer, Tensor, TensorEvaluator, Unary, UnaryScalar,
+    WIDEST, eval_plain,
 };
-use tensor_reduce::{Plan, Step};
+use tensor_reduce::{Kernel, Plan, Setup, Step, StepKernel, run_plan};
 
 /// Makes a tensor of these dims and values.
 fn tensor(alloc: Global, sizes: &[u64], values: &[i64]) -> Result<Tensor<'static>, Fail>
@@ -45,79 +47,95 @@ pub(crate) fn four_inputs(alloc: Global) -> Result<Inputs<'static>, Fail>
     Ok(inputs)
 }
 
-/// Evaluates steps one after the other. Appends the tensor of each to `tensors`.
-fn work_out(alloc: Global, steps: &[Step], tensors: &mut Inputs) -> Result<(), AllocError>
-    requires ready { AreReady steps.now tensors.old.tensors }
-    requires few { length tensors.old.tensors + length steps.now < 2 ^ 32 }
-    requires bounds { tensors.old.bounds ≡ widest }
-    ensures { OnOk result
-        (tensors.new.tensors ≡ worked_out (terms_in steps.now) tensors.old.tensors) }
-{
-    match steps {
-        [] => Ok(()),
-        [step, rest @ ..] => {
-            let tensor = eval_plain(alloc, step.expr(), tensors)?;
-            // Called for its clause: the dims of a tensor are legal.
-            let _sizes = tensor.dims().as_slice();
-            tensors.push(tensor)?;
-            work_out(alloc, rest, tensors)
-        }
-    }
-}
-
-/// Asserts that the plan of an expression has `count` steps, and that the last step gives the
-/// expression's tensor.
-fn has_steps(rt: &impl Abort, alloc: Global, expr: &Expr, count: usize) -> Result<(), Fail>
+/// Asserts that the plan of an expression over [`four_inputs`] has `count` steps, and that two
+/// workers give these values by it.
+fn has_steps<RT: Threads + Wait + Abort + Sync>(
+    rt: &RT,
+    alloc: Global,
+    expr: &Expr,
+    count: usize,
+    values: &[i64],
+) -> Result<(), Fail>
     requires { IsTrue (has_inputs (term_of expr.now) 4) }
 {
-    let mut tensors = four_inputs(alloc)?;
-    expr.dims(&tensors)?;
-    let whole = eval_plain(alloc, expr, &tensors)?;
-    let plan = Plan::of(alloc, expr, &tensors)?;
+    let inputs = four_inputs(alloc)?;
+    expr.dims(&inputs)?;
+    let plan = Plan::of(alloc, expr, &inputs)?;
     assert_eq!(rt; plan.steps().len(), count);
-    assert!(rt; count > 0 && count < 100);
-    work_out(alloc, plan.steps(), &mut tensors)?;
-    assert_eq!(rt; tensors.len() as usize, count + 4);
-    let last = tensors.get(tensors.len() - 1);
-    let step = &plan.steps()[count - 1];
-    expect(rt, count, &step.dims().as_slice(), &whole.dims().as_slice());
-    expect(rt, count, &last.dims().as_slice(), &whole.dims().as_slice());
-    expect(rt, count, &last.values(), &whole.values());
+    assert!(rt; count < 100);
+    let setup = Setup {
+        workers: 2,
+        partitions: Vec::new(alloc),
+    };
+    let tensor = run_plan(rt, alloc, &setup, 1, &plan, &inputs)?;
+    expect(rt, count, &tensor.values(), &values);
     Ok(())
 }
 
-/// Returns the matrix product of an expression and the second input.
-pub(crate) fn contraction(alloc: Global, first: Expr) -> Result<Expr, AllocError>
-    ensures { IfOk result (λ e.
-        IsTrue (has_inputs (term_of first) 4) → IsTrue (has_inputs (term_of e) 4)) }
+/// Returns the matrix product of the first two inputs.
+fn product(alloc: Global) -> Result<Expr, AllocError>
+    ensures { IfOk result (λ e. IsTrue (has_inputs (term_of e) 4)) }
 {
-    Binary::Contract(&[(1, 0)]).over(alloc, first, Expr::Input(1))
+    Binary::Contract(&[(1, 0)]).over(alloc, Expr::Input(0), Expr::Input(1))
 }
 
-/// Checks the steps of an input, a contraction, and an addition to a sum, which is two steps.
+/// Returns an expression whose plan has two steps: the squares of [`product`].
+fn squares(alloc: Global) -> Result<Expr, AllocError>
+    ensures { IfOk result (λ e. IsTrue (has_inputs (term_of e) 4)) }
+{
+    Unary::Each(UnaryScalar::Square).over(alloc, product(alloc)?)
+}
+
+/// The values of [`squares`].
+const SQUARES: [i64; 4] = [484, 2401, 784, 4096];
+
+/// Checks the steps of a contraction, of an addition to a sum, and of [`squares`].
 #[test]
-fn steps_of_few_operations(rt: HostRuntime) -> Result<(), Fail> {
+fn steps_of_plans(rt: HostRuntime) -> Result<(), Fail> {
     let alloc = rt.alloc();
-    has_steps(&rt, alloc, &Expr::Input(0), 1)?;
-    has_steps(&rt, alloc, &contraction(alloc, Expr::Input(0))?, 1)?;
+    has_steps(&rt, alloc, &product(alloc)?, 1, &[22, 49, 28, 64])?;
     let sum = Unary::Reduce(Reducer::Sum, &[0]).over(alloc, Expr::Input(2))?;
     let both = Binary::Pairwise(BinaryScalar::Add).over(alloc, sum, Expr::Input(3))?;
-    has_steps(&rt, alloc, &both, 2)
+    has_steps(&rt, alloc, &both, 2, &[14])?;
+    has_steps(&rt, alloc, &squares(alloc)?, 2, &SQUARES)
 }
 
-/// Checks the five steps of the largest squares of a product, and the three steps of a padded
-/// convolution.
+/// Asserts that a step over these tensors has the values of [`SQUARES`]: up to `place` by its
+/// kernel, from there on by its evaluator, and all written into a list.
+fn gives_squares(
+    rt: &impl Abort,
+    alloc: Global,
+    step: &Step,
+    inputs: &Inputs,
+    earlier: &[Tensor],
+    place: u64,
+) -> Result<(), Fail>
+    requires { IsReady step.now (inputs.now.tensors ++ earlier.now) }
+{
+    let kernel = StepKernel::of(alloc, step, inputs, earlier)?;
+    let evaluator = TensorEvaluator::over(alloc, step.expr(), inputs, earlier)?;
+    let size = step.dims().size();
+    assert!(rt; place <= size);
+    let mut values = kernel.fill(alloc, 0, place)?;
+    let upper = evaluator.values(alloc, place, size)?;
+    values.extend_from_slice(upper.as_slice())?;
+    expect(rt, place, &values.as_slice(), &SQUARES.as_slice());
+    let mut written = vec![in alloc; 77i64; size as usize]?;
+    evaluator.fill(0, &mut written)?;
+    expect(rt, place, &written.as_slice(), &SQUARES.as_slice());
+    Ok(())
+}
+
 #[test]
-fn steps_of_nested_operations(rt: HostRuntime) -> Result<(), Fail> {
+fn values_of_a_step(rt: HostRuntime) -> Result<(), Fail> {
     let alloc = rt.alloc();
-    let negation = Unary::Each(UnaryScalar::Neg).over(alloc, Expr::Input(0))?;
-    let contracted = contraction(alloc, negation)?;
-    let squares = Unary::Each(UnaryScalar::Square).over(alloc, contracted)?;
-    let greatest = Unary::Reduce(Reducer::Max, &[1]).over(alloc, squares)?;
-    let product = Binary::Pairwise(BinaryScalar::Mul).over(alloc, greatest, Expr::Input(2))?;
-    has_steps(&rt, alloc, &product, 5)?;
-    let negation = Unary::Each(UnaryScalar::Neg).over(alloc, Expr::Input(0))?;
-    let window_index = Binary::Convolve(&[0]).over(alloc, negation, Expr::Input(2))?;
-    let framed = Unary::Pad(&[(1, 0), (0, 1)]).over(alloc, window_index)?;
-    has_steps(&rt, alloc, &framed, 3)
+    let inputs = four_inputs(alloc)?;
+    let expr = squares(alloc)?;
+    expr.dims(&inputs)?;
+    let plan = Plan::of(alloc, &expr, &inputs)?;
+    let [first, last] = plan.steps() else {
+        return Err("not two steps".into());
+    };
+    let earlier = [eval_plain(alloc, first.expr(), &inputs)?];
+    gives_squares(&rt, alloc, last, &inputs, &earlier, 3)
 }

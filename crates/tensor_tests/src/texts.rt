@@ -35,27 +35,3 @@ pub(crate) fn request(
         "{{\"version\":{version},\"workers\":2,\"block\":4,\"inputs\":{inputs},\"expr\":{expr}}}"
     )
 }
-
-/// Returns `count` values as JSON, each one more than the value before.
-fn rising(alloc: Global, count: u32, first: i32) -> Result<String, AllocError> {
-    let mut data = String::new(alloc);
-    for place in 0..count {
-        let comma = if place > 0 { "," } else { "" };
-        let value = i64::from(first) + i64::from(place);
-        let item = format!(in alloc; "{comma}{value}")?;
-        data.push_str(item.as_str())?;
-    }
-    Ok(data)
-}
-
-/// Returns inputs as JSON: the grids `a` and `b` with these dims, and a list `k` of three values.
-pub(crate) fn grids(alloc: Global, rows: u16, columns: u16) -> Result<String, AllocError> {
-    let count = u32::from(rows) * u32::from(columns);
-    let (first, second) = (rising(alloc, count, -50)?, rising(alloc, count, 7)?);
-    let (first, second) = (first.as_str(), second.as_str());
-    format!(in alloc;
-        "{{\"a\":{{\"dims\":[{rows},{columns}],\"data\":[{first}]}},\
-        \"b\":{{\"dims\":[{rows},{columns}],\"data\":[{second}]}},\
-        \"k\":{{\"dims\":[3],\"data\":[2,-1,3]}}}}"
-    )
-}

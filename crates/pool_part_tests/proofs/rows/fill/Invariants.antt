@@ -1,6 +1,8 @@
--- The seat stays one of the rows.
+-- The seat stays the same one of the rows.
 use Rattle.std.proofs.Common.{◌≡◌}
 use Rattle.pool_part_tests.proofs.rows.fill.Given as goal
 
 abbrev pub invariant-loop-job : goal.invariant-loop-job
-invariant-loop-job g l = g.Q.Rows.rows_of l.seat ≡ g.Q.Rows.rows_of l.initial.seat
+invariant-loop-job g l =
+    (g.Q.Rows.rows_of l.owner ≡ g.Q.Rows.rows_of l.initial.owner) ×
+    (g.Q.Rows.number_of l.owner ≡ g.Q.Rows.number_of l.initial.owner)

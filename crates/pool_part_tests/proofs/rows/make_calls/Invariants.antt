@@ -4,5 +4,5 @@ use Rattle.pool_part_tests.proofs.rows.make_calls.Given as goal
 
 abbrev pub invariant-loop-call : goal.invariant-loop-call
 invariant-loop-call g l =
-    (g.Q.Rows.rows_of l.seat ≡ g.Q.Rows.rows_of l.initial.seat) ×
-    (g.Q.Rows.number_of l.seat ≡ g.Q.Rows.number_of l.initial.seat)
+    (g.Q.Rows.rows_of l.owner ≡ g.Q.Rows.rows_of l.initial.owner) ×
+    (g.Q.Rows.number_of l.owner ≡ g.Q.Rows.number_of l.initial.owner)
