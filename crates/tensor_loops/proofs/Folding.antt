@@ -5,7 +5,7 @@ use Rattle.std.specs.List.{fold, range_with_len}
 use Rattle.std.proofs.lemmas.List.FromFn.{map-range_with_len_more}
 use Rattle.std.proofs.lemmas.List.Sums.{fold-append}
 use Rattle.std.proofs.lemmas.Nat.{div-mul-add, mod-mul-add}
-use Rattle.tensor_loops.specs.Folds.{folded, offset_at, start_at}
+use Rattle.tensor_loops.specs.Folds.{folded, offset_at}
 use Rattle.tensor_values.specs.Combining.{combine}
 use Rattle.tensor_values.specs.declared.reducer.Reducer.{Reducer}
 use Rattle.tensor_values.proofs.Runs.{map-shifted, map-joined}
@@ -37,9 +37,3 @@ pub offset_at-run : (offsets : List ℕ) (step run k t : ℕ) → t < run
     → offset_at offsets step run (k * run + t) ≡ get_or offsets k 0 + t * step
 offset_at-run offsets step run k t below =
     rw (mod-mul-add k run t below, div-mul-add k run t below) refl
-
--- a place of a row
-pub start_at-row : (rows : List ℕ) (width row index p : ℕ) → index < width → p ≡ row * width + index
-    → start_at rows width p ≡ get_or rows row 0 + index
-start_at-row rows width row index p below at =
-    rw at (rw (mod-mul-add row width index below, div-mul-add row width index below) refl)

@@ -26,8 +26,3 @@ pub record IsCombined (r : Reducer) (old new : List ℤ)
 -- `step` apart, and each run begins at an offset
 abbrev pub offset_at : List ℕ → ℕ → ℕ → ℕ → ℕ
 offset_at offsets step run q = slice_index offsets (q / run) + q % run * step
-
--- where the first of the values lies that are combined at place p of the result; the result is made
--- of rows of `width` places, whose starts are in `rows`
-abbrev pub start_at : List ℕ → ℕ → ℕ → ℕ
-start_at rows width p = slice_index rows (p / width) + p % width

@@ -1,6 +1,33 @@
-//! Loops over values, one for each number of operands. The operation is a constant in each arm, so
-//! that the compiler makes a loop for each operation, without a test in it. A new operation needs
-//! an arm in each `match`; its meaning is in `specs/Scalars` of tensor_values.
+//! Loops over values, one for each number of operands. `with_constant` and `with_link` make the
+//! operation a constant where its loop is called, so that the compiler makes a loop for each
+//! operation, without a test in it. The meaning of an operation is in `specs/Scalars` of
+//! tensor_values.
+
+/// Evaluates an expression for each operation on one value. In it, the operation is a constant.
+macro_rules! with_constant {
+    (($($name:ident)*), $operation:ident, $body:expr) => {
+        match $operation {
+            $(UnaryScalar::$name => {
+                let $operation = UnaryScalar::$name;
+                $body
+            })*
+        }
+    };
+}
+
+/// Evaluates an expression for each operation on two values. In it, the operation of the link is a
+/// constant. A function uses it at most twice. The compiler drops `inline(always)` where a function
+/// would grow very large, and then all operations share a slow loop.
+macro_rules! with_link {
+    (($($name:ident)*), $link:ident, $body:expr) => {
+        match $link.operation {
+            $(BinaryScalar::$name => {
+                let $link = Link { operation: BinaryScalar::$name, ..$link };
+                $body
+            })*
+        }
+    };
+}
 
 pub(crate) mod chain;
 pub(crate) mod combining;
@@ -9,15 +36,18 @@ mod inverse;
 pub(crate) mod putting;
 
 ghost use Rattle.std.specs.Prelude.{◌≡◌, ◌<◌, ◌≤◌, ◌+◌, ℕ, pos, length, slice_index_or};
-ghost use Rattle.std.specs.Prelude.{if◌then◌else◌};
+ghost use Rattle.std.specs.Prelude.{if◌then◌else◌, false};
 ghost use Rattle.tensor_loops.specs.Loops.{either_way, selected, CombinesRow};
-ghost use Rattle.tensor_values.specs.Scalars.{applied, is_true};
+ghost use Rattle.tensor_values.specs.Scalars.{applied, combined, is_true};
+ghost use Rattle.tensor_values.specs.declared.operations.BinaryScalar.TheVariants.{FloorDivide};
 ghost use Rattle.tensor_views.specs.View.{IsRowIn};
 
 use crate::loops::chain::Link;
 use crate::loops::dividing::{Division, divides_by};
 use crate::loops::inverse::Inverse;
-use tensor_values::{BinaryScalar, UnaryScalar, applied, combined, is_true};
+use tensor_values::{
+    BinaryScalar, UnaryScalar, applied, binary_names, combined, is_true, unary_names,
+};
 use tensor_views::{Row, steps_to};
 
 /// The order in which the operands of a select are evaluated. The named operand comes first; the
@@ -38,13 +68,7 @@ pub fn apply(operation: UnaryScalar, values: &mut [i64])
     ensures each { (k : ℕ) → k < length values.old → slice_index_or values.new k (pos 0)
         ≡ applied operation (slice_index_or values.old k (pos 0)) }
 {
-    match operation {
-        UnaryScalar::Neg => apply_each(UnaryScalar::Neg, values),
-        UnaryScalar::Abs => apply_each(UnaryScalar::Abs, values),
-        UnaryScalar::Square => apply_each(UnaryScalar::Square, values),
-        UnaryScalar::Not => apply_each(UnaryScalar::Not, values),
-        UnaryScalar::BitNot => apply_each(UnaryScalar::BitNot, values),
-    }
+    unary_names!(with_constant, operation, apply_each(operation, values))
 }
 
 /// Replaces each value by the result of the operation on it and the other list's value at its
@@ -67,91 +91,17 @@ pub fn combine_row(link: Link, values: &mut [i64], at: usize, list: &[i64], row:
     ensures { CombinesRow link.operation link.swapped values.old list.now row at row.count
         values.new }
 {
-    let swapped = link.swapped;
-    match link.operation {
-        BinaryScalar::Add => combine_by_steps(BinaryScalar::Add, swapped, values, at, list, row),
-        BinaryScalar::Sub => combine_by_steps(BinaryScalar::Sub, swapped, values, at, list, row),
-        BinaryScalar::Mul => combine_by_steps(BinaryScalar::Mul, swapped, values, at, list, row),
-        BinaryScalar::CwiseMax => combine_by_steps(
-            BinaryScalar::CwiseMax,
-            swapped,
-            values,
-            at,
-            list,
-            row,
-        ),
-        BinaryScalar::CwiseMin => combine_by_steps(
-            BinaryScalar::CwiseMin,
-            swapped,
-            values,
-            at,
-            list,
-            row,
-        ),
-        BinaryScalar::Lt => combine_by_steps(BinaryScalar::Lt, swapped, values, at, list, row),
-        BinaryScalar::Le => combine_by_steps(BinaryScalar::Le, swapped, values, at, list, row),
-        BinaryScalar::Eq => combine_by_steps(BinaryScalar::Eq, swapped, values, at, list, row),
-        BinaryScalar::Ne => combine_by_steps(BinaryScalar::Ne, swapped, values, at, list, row),
-        BinaryScalar::Gt => combine_by_steps(BinaryScalar::Gt, swapped, values, at, list, row),
-        BinaryScalar::Ge => combine_by_steps(BinaryScalar::Ge, swapped, values, at, list, row),
-        BinaryScalar::And => combine_by_steps(BinaryScalar::And, swapped, values, at, list, row),
-        BinaryScalar::Or => combine_by_steps(BinaryScalar::Or, swapped, values, at, list, row),
-        BinaryScalar::FloorDivide => combine_by_steps(
-            BinaryScalar::FloorDivide,
-            swapped,
-            values,
-            at,
-            list,
-            row,
-        ),
-        BinaryScalar::Remainder => combine_by_steps(
-            BinaryScalar::Remainder,
-            swapped,
-            values,
-            at,
-            list,
-            row,
-        ),
-        BinaryScalar::BitAnd => combine_by_steps(
-            BinaryScalar::BitAnd,
-            swapped,
-            values,
-            at,
-            list,
-            row,
-        ),
-        BinaryScalar::BitOr => combine_by_steps(
-            BinaryScalar::BitOr,
-            swapped,
-            values,
-            at,
-            list,
-            row,
-        ),
-        BinaryScalar::BitXor => combine_by_steps(
-            BinaryScalar::BitXor,
-            swapped,
-            values,
-            at,
-            list,
-            row,
-        ),
-        BinaryScalar::ShiftLeft => combine_by_steps(
-            BinaryScalar::ShiftLeft,
-            swapped,
-            values,
-            at,
-            list,
-            row,
-        ),
-        BinaryScalar::ShiftRight => combine_by_steps(
-            BinaryScalar::ShiftRight,
-            swapped,
-            values,
-            at,
-            list,
-            row,
-        ),
+    match (row.axis.step, row.axis.reversed) {
+        (1, false) => combine_known::<1, false>(link, values, at, list, row),
+        (1, true) => combine_known::<1, true>(link, values, at, list, row),
+        (0, false) => {
+            binary_names!(
+                with_link,
+                link,
+                combine_repeated(link, values, at, list, row)
+            )
+        }
+        _ => binary_names!(with_link, link, combine_each(link, values, at, list, row)),
     }
 }
 
@@ -186,32 +136,42 @@ fn apply_each(operation: UnaryScalar, values: &mut [i64])
     }
 }
 
-/// Combines values with a list's values along a row. The step of the row is a constant too if it is
-/// 1 or 0.
-#[inline(always)]
-fn combine_by_steps(
-    operation: BinaryScalar,
-    swapped: bool,
+/// Combines values with a list's values along a row whose step and direction are constants.
+fn combine_known<const STEP: usize, const REVERSED: bool>(
+    link: Link,
     values: &mut [i64],
     at: usize,
     list: &[i64],
     row: Row,
 )
+    requires step { row.axis.step ≡ STEP }
+    requires way { row.axis.reversed ≡ REVERSED }
     requires row { IsRowIn row (length list.now) }
     requires room { at + row.count ≤ length values.old }
-    ensures { CombinesRow operation swapped values.old list.now row at row.count
+    ensures { CombinesRow link.operation link.swapped values.old list.now row at row.count
         values.new }
 {
-    let link = Link { operation, swapped };
-    match (row.axis.step, row.axis.reversed) {
-        (1, false) => combine_each(link, values, at, list, row.known(1, false)),
-        (1, true) => combine_each(link, values, at, list, row.known(1, true)),
-        (0, false) if 0 < row.count && divides_by(link, list[row.start]) => {
-            let inverse = Inverse::of(list[row.start]);
-            Division { operation, inverse }.divide_each(values, at, row.count);
-        }
-        (0, false) => combine_each(link, values, at, list, row.known(0, false)),
-        _ => combine_each(link, values, at, list, row),
+    let row = row.known(STEP, REVERSED);
+    binary_names!(with_link, link, combine_each(link, values, at, list, row))
+}
+
+/// Combines values with the one value of a list that a row repeats. To divide by a number above 0,
+/// it multiplies by the inverse of the number.
+#[inline(always)]
+fn combine_repeated(link: Link, values: &mut [i64], at: usize, list: &[i64], row: Row)
+    requires step { row.axis.step ≡ 0 }
+    requires way { row.axis.reversed ≡ false }
+    requires row { IsRowIn row (length list.now) }
+    requires room { at + row.count ≤ length values.old }
+    ensures { CombinesRow link.operation link.swapped values.old list.now row at row.count
+        values.new }
+{
+    if 0 < row.count && divides_by(link, list[row.start]) {
+        let operation = link.operation;
+        let inverse = Inverse::of(list[row.start]);
+        Division { operation, inverse }.divide_each(values, at, row.count);
+    } else {
+        combine_each(link, values, at, list, row.known(0, false));
     }
 }
 
@@ -250,10 +210,30 @@ pub(crate) fn either_way(link: Link, x: i64, y: i64) -> i64
     ensures { result ≡ either_way link.operation link.swapped x y }
 {
     if link.swapped {
-        combined(link.operation, y, x)
+        result_of(link.operation, y, x)
     } else {
-        combined(link.operation, x, y)
+        result_of(link.operation, x, y)
     }
+}
+
+/// Returns the result of the operation on x and y. A quotient is a call, since vector code would
+/// divide twice for it.
+#[inline(always)]
+fn result_of(operation: BinaryScalar, x: i64, y: i64) -> i64
+    ensures { result ≡ combined operation x y }
+{
+    match operation {
+        BinaryScalar::FloorDivide => quotient(x, y),
+        _ => combined(operation, x, y),
+    }
+}
+
+/// Returns the quotient of x and y, rounded down.
+#[inline(never)]
+fn quotient(x: i64, y: i64) -> i64
+    ensures { result ≡ combined FloorDivide x y }
+{
+    combined(BinaryScalar::FloorDivide, x, y)
 }
 
 /// Returns the value of a select, given its operands in the order in which they were evaluated.

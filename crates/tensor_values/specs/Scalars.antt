@@ -1,5 +1,5 @@
 -- The operations on single values.
-use Rattle.std.specs.Prelude.{ℤ, pos, ◌+ℤ◌, ◌-ℤ◌, ◌*ℤ◌, neg_ℤ, unsigned_abs}
+use Rattle.std.specs.Prelude.{ℤ, pos, ◌+ℤ◌, ◌-ℤ◌, ◌*ℤ◌, neg_ℤ, unsigned_abs, count_ones}
 use Rattle.std.specs.Prelude.{int_lt, int_le}
 use Rattle.std.specs.Prelude.{Bool, not, ◌&&◌, ◌||◌, if◌then◌else◌}
 use Rattle.std.specs.Int.{w64, int_max, int_min, int_bit_and, int_bit_or, int_bit_xor, int_bit_not}
@@ -26,6 +26,7 @@ applied one.Abs x = wrap (pos (unsigned_abs x))
 applied one.Square x = wrap (x *ℤ x)
 applied one.Not x = truth (not (is_true x))
 applied one.BitNot x = int_bit_not w64 x
+applied one.BitCount x = pos (count_ones (unsigned_abs x))
 
 -- the result of an operation on two values
 abbrev pub combined : BinaryScalar → ℤ → ℤ → ℤ

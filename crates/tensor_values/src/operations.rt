@@ -1,5 +1,5 @@
-//! The operations on single values. A change of a variant touches `specs/Scalars`, and the matches
-//! of tensor_terms, tensor_loops, tensor_reduce, expr_reader and prepared_expressions.
+//! The operations on single values. A new variant needs a line of `specs/Scalars`, its name in the
+//! list of names, and arms in the matches of tensor_terms, expr_reader and prepared_expressions.
 
 ghost use Rattle.std.specs.Prelude.{◌≡◌};
 ghost use Rattle.tensor_values.specs.Scalars.{is_true, truth, applied, combined};
@@ -14,6 +14,7 @@ pub enum UnaryScalar {
     Square,
     Not,
     BitNot,
+    BitCount,
 }
 
 /// An operation on two values. A comparison or a logical operation gives 1 for true and 0 for
@@ -42,6 +43,23 @@ pub enum BinaryScalar {
     ShiftRight,
 }
 
+/// Calls a macro with the names of all operations on one value, and the given tokens.
+#[macro_export]
+macro_rules! unary_names {
+    ($then:ident, $($given:tt)*) => {
+        $then!((Neg Abs Square Not BitNot BitCount), $($given)*)
+    };
+}
+
+/// Calls a macro with the names of all operations on two values, and the given tokens.
+#[macro_export]
+macro_rules! binary_names {
+    ($then:ident, $($given:tt)*) => {
+        $then!((Add Sub Mul CwiseMax CwiseMin Lt Le Eq Ne Gt Ge And Or FloorDivide Remainder
+            BitAnd BitOr BitXor ShiftLeft ShiftRight), $($given)*)
+    };
+}
+
 /// Returns the result of an operation on one value, modulo 2^64.
 #[inline(always)]
 pub fn applied(operation: UnaryScalar, x: i64) -> i64
@@ -53,6 +71,7 @@ pub fn applied(operation: UnaryScalar, x: i64) -> i64
         UnaryScalar::Square => x.wrapping_mul(x),
         UnaryScalar::Not => truth(!is_true(x)),
         UnaryScalar::BitNot => !x,
+        UnaryScalar::BitCount => i64::from(x.unsigned_abs().count_ones()),
     }
 }
 

@@ -1,5 +1,5 @@
 //! Results of operations on lists, written over a buffer in one pass, without a copy of an operand.
-//! A new operation needs an arm in each `match`; the meaning is in `specs/Putting`.
+//! The meaning is in `specs/Putting`.
 
 ghost use Rattle.std.specs.Prelude.{◌≡◌, ◌<◌, ℕ, pos, length, slice_index_or, IfOk};
 ghost use Rattle.tensor_loops.specs.Loops.{either_way};
@@ -11,7 +11,7 @@ use crate::loops::dividing::{Division, divides_by};
 use crate::loops::either_way;
 use crate::loops::inverse::Inverse;
 use std::alloc::{AllocError, Global};
-use tensor_values::{BinaryScalar, UnaryScalar, applied};
+use tensor_values::{BinaryScalar, UnaryScalar, applied, binary_names, unary_names};
 
 /// The second operand of a loop over two operands.
 #[derive(Clone, Copy, Drop)]
@@ -29,13 +29,11 @@ pub fn put_applied(operation: UnaryScalar, values: &mut [i64], list: &[i64])
     ensures each { (k : ℕ) → k < length list.now → slice_index_or values.new k (pos 0)
         ≡ applied operation (slice_index_or list.now k (pos 0)) }
 {
-    match operation {
-        UnaryScalar::Neg => put_each_applied(UnaryScalar::Neg, values, list),
-        UnaryScalar::Abs => put_each_applied(UnaryScalar::Abs, values, list),
-        UnaryScalar::Square => put_each_applied(UnaryScalar::Square, values, list),
-        UnaryScalar::Not => put_each_applied(UnaryScalar::Not, values, list),
-        UnaryScalar::BitNot => put_each_applied(UnaryScalar::BitNot, values, list),
-    }
+    unary_names!(
+        with_constant,
+        operation,
+        put_each_applied(operation, values, list)
+    )
 }
 
 /// Replaces each value by the result of the operation on the first list's value and the second
@@ -48,53 +46,7 @@ pub fn put_combined(link: Link, values: &mut [i64], first: &[i64], others: Other
         ≡ either_way link.operation link.swapped (slice_index_or first.now k (pos 0))
         (other_at others.entry k) }
 {
-    let swapped = link.swapped;
-    match link.operation {
-        BinaryScalar::Add => put_each(BinaryScalar::Add, swapped, values, first, others),
-        BinaryScalar::Sub => put_each(BinaryScalar::Sub, swapped, values, first, others),
-        BinaryScalar::Mul => put_each(BinaryScalar::Mul, swapped, values, first, others),
-        BinaryScalar::CwiseMax => put_each(BinaryScalar::CwiseMax, swapped, values, first, others),
-        BinaryScalar::CwiseMin => put_each(BinaryScalar::CwiseMin, swapped, values, first, others),
-        BinaryScalar::Lt => put_each(BinaryScalar::Lt, swapped, values, first, others),
-        BinaryScalar::Le => put_each(BinaryScalar::Le, swapped, values, first, others),
-        BinaryScalar::Eq => put_each(BinaryScalar::Eq, swapped, values, first, others),
-        BinaryScalar::Ne => put_each(BinaryScalar::Ne, swapped, values, first, others),
-        BinaryScalar::Gt => put_each(BinaryScalar::Gt, swapped, values, first, others),
-        BinaryScalar::Ge => put_each(BinaryScalar::Ge, swapped, values, first, others),
-        BinaryScalar::And => put_each(BinaryScalar::And, swapped, values, first, others),
-        BinaryScalar::Or => put_each(BinaryScalar::Or, swapped, values, first, others),
-        BinaryScalar::FloorDivide => put_each(
-            BinaryScalar::FloorDivide,
-            swapped,
-            values,
-            first,
-            others,
-        ),
-        BinaryScalar::Remainder => put_each(
-            BinaryScalar::Remainder,
-            swapped,
-            values,
-            first,
-            others,
-        ),
-        BinaryScalar::BitAnd => put_each(BinaryScalar::BitAnd, swapped, values, first, others),
-        BinaryScalar::BitOr => put_each(BinaryScalar::BitOr, swapped, values, first, others),
-        BinaryScalar::BitXor => put_each(BinaryScalar::BitXor, swapped, values, first, others),
-        BinaryScalar::ShiftLeft => put_each(
-            BinaryScalar::ShiftLeft,
-            swapped,
-            values,
-            first,
-            others,
-        ),
-        BinaryScalar::ShiftRight => put_each(
-            BinaryScalar::ShiftRight,
-            swapped,
-            values,
-            first,
-            others,
-        ),
-    }
+    binary_names!(with_link, link, put_each(link, values, first, others))
 }
 
 /// Returns a new list of the results of the operation on the first list's values and the second
@@ -132,24 +84,18 @@ fn put_each_applied(operation: UnaryScalar, values: &mut [i64], list: &[i64])
 
 /// Writes the results of the operation. Each form of the second operand has a loop of its own.
 #[inline(always)]
-fn put_each(
-    operation: BinaryScalar,
-    swapped: bool,
-    values: &mut [i64],
-    first: &[i64],
-    others: Others<'_>,
-)
+fn put_each(link: Link, values: &mut [i64], first: &[i64], others: Others<'_>)
     requires first { length values.old ≡ length first.now }
     requires others { IsAsLong others (length first.now) }
     ensures len { length values.new ≡ length first.now }
     ensures each { (k : ℕ) → k < length first.now → slice_index_or values.new k (pos 0)
-        ≡ either_way operation swapped (slice_index_or first.now k (pos 0))
+        ≡ either_way link.operation link.swapped (slice_index_or first.now k (pos 0))
         (other_at others.entry k) }
 {
-    let link = Link { operation, swapped };
     match others {
         Others::Listed(second) => put_of_lists(link, values, first, second),
         Others::Filled(value) if divides_by(link, value) => {
+            let operation = link.operation;
             let inverse = Inverse::of(value);
             values.copy_from_slice(first);
             Division { operation, inverse }.divide_each(values, 0, first.len());
