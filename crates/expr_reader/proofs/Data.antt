@@ -1,7 +1,6 @@
 -- Data by its kind.
-use Rattle.std.proofs.Common.{◌≡◌, ℕ, List, eqb, Some, None, refl, IsUtf8, String as Text, Global, string_bytes, rules}
-use Rattle.serde_json.specs.View.{view}
-use Rattle.serde_json.specs.declared.value.Value.{String, the_lemmas}
+use Rattle.std.proofs.Common.{◌≡◌, ℕ, List, eqb, Some, None, refl, IsUtf8, rules}
+use Rattle.serde_json.specs.declared.value.Value.{the_lemmas}
 use Rattle.std.specs.Str.{is_utf8}
 use Rattle.std.proofs.lemmas.Bool.{false_from_ne_true}
 use Rattle.std.proofs.lemmas.Str.{IsUtf8-from_is_utf8, is_utf8-from_IsUtf8}
@@ -17,10 +16,6 @@ reading-utf8 text h = rw (is_utf8-from_IsUtf8 text h) refl
 
 pub reading-not_utf8 : (text : List ℕ) → (IsUtf8 text → ⊥) → reading text ≡ None
 reading-not_utf8 text h = rw (false_from_ne_true (is_utf8 text) (λ t. h (IsUtf8-from_is_utf8 text t))) refl
-
--- a string is its bytes
-pub view-String : (s : Text Global) → view (String s) ≡ string (string_bytes s)
-view-String s = search (rules, the_lemmas)
 
 -- the members of an object are those that it has
 pub has_members-as_object : (n : ℕ) (d : Data) (ms : Members) → as_object d ≡ Some ms → has_members n d ≡ eqb (members_len ms) n

@@ -10,7 +10,6 @@ pub mod Grammar
 pub mod Lists
 pub mod Members
 pub mod Numbers
-pub mod Operations
 pub mod SameDims
 pub mod Tokens
 pub mod Trees

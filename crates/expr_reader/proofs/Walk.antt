@@ -54,16 +54,6 @@ made-found inputs fs i items make end t found = from (arguments_at i fs items) f
     from (Err l) h = (cc)
     from (Ok a) h = let same : make a ≡ t = cc in ap (λ u. checked inputs u end) same
 
--- the first that is none of its form is the fault
-pub made-unread : (inputs : Given) (fs : List Form) (i : ℕ) (items : Items) (make : Arguments fs → Term) (end : ℕ) (l : Located)
-    → map_found make (arguments_at i fs items) ≡ Err l → made inputs fs i items make end ≡ Err l
-made-unread inputs fs i items make end l found = from (arguments_at i fs items) found
-  where
-    from : (there : Result (Arguments fs) Located) → map_found make there ≡ Err l
-        → and_then there (λ a. checked inputs (make a) end) ≡ Err l
-    from (Err k) h = (cc)
-    from (Ok a) h = (cc)
-
 -- what arguments make of an operand has that operand
 pub made-unary : {A : Type 0} (make : A → Unary) (t u : Term) (there : Result A Located)
     → map_found (λ a. unary (make a) t) there ≡ Ok u → (bounds : Bounds) (inputs : List Contents) → operand_dims bounds u inputs ≡ dims_of bounds t inputs ∷ []
@@ -95,18 +85,6 @@ get_or-within : (vs : List Value) (i : ℕ) (d e : Value) → i < length vs → 
 get_or-within [] i d e below = absurd (omega arith)
 get_or-within (v ∷ vs) zero d e below = refl
 get_or-within (v ∷ vs) (suc i) d e below = get_or-within vs i d e (omega arith)
-
--- a node whose first element names no operation
-pub tree_at-unknown : (profile : Profile) (named : Named) (n : ℕ) → n < profile.nodes → (h v : Value) (list : Vec Value Global)
-    → v ≡ Array list → Some h ≡ slice_get list.items 0 → (l : Located) → operation_at profile (view h) ≡ Err l
-    → tree_at profile named n (view v) ≡ Err l
-tree_at-unknown profile named n few h v list is head l unknown = from list.items refl head
-  where
-    from : (vs : List Value) → list.items ≡ vs → Some h ≡ slice_get vs 0 → tree_at profile named n (view v) ≡ Err l
-    from [] same absent = (cc)
-    from (x ∷ vs) same first =
-        let as_named : x ≡ h = cc in
-        rw (ap view is ∙ view-Array list ∙ ap (λ vs. array (items_view vs)) same, lt-leb profile.nodes n few, as_named, unknown) refl
 
 -- a node of a known operation, by the elements of its array
 module _ (profile : Profile) (named : Named) (n : ℕ) (few : n < profile.nodes) (o : Operation) (h v : Value)

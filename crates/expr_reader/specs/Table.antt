@@ -1,5 +1,5 @@
 -- The table of operations by name: the operands and arguments of each, and the term that they make.
-use Rattle.std.specs.Prelude.{ℕ, ◌+◌, length, List, [], ◌∷◌, ◌++◌, take, drop, codes}
+use Rattle.std.specs.Prelude.{ℕ, ◌+◌, length, List, [], ◌∷◌, ◌++◌, codes}
 use Rattle.tensor_ops.specs.Term.{Unary, each, constant, movement, pad, reduce, along}
 use Rattle.tensor_ops.specs.Term.{Binary, pairwise, concat, contract, convolve, taking}
 use Rattle.tensor_ops.specs.Term.{Ternary, select, broadcast, slice, shuffle, reshape}
@@ -20,6 +20,12 @@ pub data Operation : Type 0 where
   one : (forms : List Form) → (Arguments forms → Unary) → Operation
   two : (forms : List Form) → (Arguments forms → Binary) → Operation
   three : (forms : List Form) → (Arguments forms → Ternary) → Operation
+
+-- how many operands an operation has
+abbrev pub operands_of : Operation → ℕ
+operands_of (one forms make) = 1
+operands_of (two forms make) = 2
+operands_of (three forms make) = 3
 
 -- how many elements stand after the name: operands, and then arguments
 abbrev pub arity_of : Operation → ℕ
@@ -97,6 +103,7 @@ operations_3 = operations_2
     ∷ (codes "bit_or", on_pairs binary.BitOr)
     ∷ (codes "bit_xor", on_pairs binary.BitXor)
     ∷ (codes "bit_not", on_each unary.BitNot)
+    ∷ (codes "bit_count", on_each unary.BitCount)
     ∷ (codes "shift_left", on_pairs binary.ShiftLeft)
     ∷ (codes "shift_right", on_pairs binary.ShiftRight)
     ∷ (codes "cumsum", along_axis Cumsum)
@@ -104,27 +111,3 @@ operations_3 = operations_2
     ∷ (codes "argmax", along_axis Argmax)
     ∷ (codes "argmin", along_axis Argmin)
     ∷ (codes "take", two (size ∷ []) (λ a. taking a.0)) ∷ [])
-
--- the operations of version 1 that compute each value from the values at one place
-abbrev pub operations_on_values : List (List ℕ × Operation)
-operations_on_values = take 19 operations_1
-
--- the movements of version 1
-abbrev pub movements : List (List ℕ × Operation)
-movements = take 6 (drop 19 operations_1)
-
--- the operations of version 1 that combine values along axes
-abbrev pub operations_along_axes : List (List ℕ × Operation)
-operations_along_axes = drop 25 operations_1
-
--- the operations that version 2 adds
-abbrev pub operations_added : List (List ℕ × Operation)
-operations_added = drop 32 operations_2
-
--- the operations on integers that version 3 adds
-abbrev pub operations_on_integers : List (List ℕ × Operation)
-operations_on_integers = take 8 (drop 36 operations_3)
-
--- the operations along one axis that version 3 adds
-abbrev pub operations_along_one_axis : List (List ℕ × Operation)
-operations_along_one_axis = drop 44 operations_3

@@ -43,6 +43,7 @@ pub use text::{
     read_request, values_limit,
 };
 pub use values::Values;
+pub use version::operands_in;
 
 /// The largest number of bytes of a text or a header.
 pub const MAX_TEXT: usize = 16_777_216;

@@ -1,4 +1,4 @@
-//! The operations of requests, without their operands and arguments. A new one needs a name in
+//! The operations of requests, without their operands and arguments. A new one needs a row in
 //! `version.rt`, an arm in `arguments.rt`, its forms in `specs/private/Version`, and a row of
 //! `specs/Table`.
 
@@ -79,8 +79,19 @@ impl Binary {
 }
 
 impl Operation {
-    ghost use Rattle.expr_reader.specs.Table.{arity_of};
+    ghost use Rattle.expr_reader.specs.Table.{arity_of, operands_of};
     ghost use Rattle.expr_reader.specs.private.Version.{operation_under};
+
+    /// Returns how many operands the operation has.
+    pub(crate) fn operands(self) -> usize
+        ensures { result ≡ operands_of (operation_under self) }
+    {
+        match self {
+            Operation::One(_) => 1,
+            Operation::Two(_) => 2,
+            Operation::Select => 3,
+        }
+    }
 
     /// Returns how many elements follow the operation's name in a node: operands, and then
     /// arguments.

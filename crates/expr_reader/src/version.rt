@@ -2,22 +2,76 @@
 //! `specs/Table` their operations; both have to change with this file, and docs/REQUEST.md or
 //! FRAMES.md.
 
-ghost use Rattle.std.specs.Prelude.{◌≡◌, ◌≤◌, option_map};
+ghost use Rattle.std.specs.Prelude.{◌≡◌, ◌≤◌, option_map, option_and_then};
 ghost use Rattle.serde_json.specs.View.{view};
 ghost use Rattle.tensor_ops.specs.Legal.{IsPossible};
 ghost use Rattle.expr_reader.specs.Expression.{is_let};
 ghost use Rattle.expr_reader.specs.Limits.{widest_nodes};
-ghost use Rattle.expr_reader.specs.Profile.{operation_named};
-ghost use Rattle.expr_reader.specs.Table.{operations_on_values, movements, operations_along_axes};
-ghost use Rattle.expr_reader.specs.Table.{operations_1, operations_2, operations_3};
-ghost use Rattle.expr_reader.specs.Table.{operations_added, operations_on_integers};
-ghost use Rattle.expr_reader.specs.Table.{operations_along_one_axis};
-ghost use Rattle.expr_reader.specs.private.Version.{operation_under};
+ghost use Rattle.expr_reader.specs.Profile.{operation_named, frame_profile_of};
+ghost use Rattle.expr_reader.specs.Table.{operands_of};
+ghost use Rattle.expr_reader.specs.private.Version.{operation_under, table_under};
 
+use crate::operation::Binary::Pairwise;
+use crate::operation::Operation::{One, Two};
+use crate::operation::Unary::{Along, Each, Reduce};
 use crate::operation::{Binary, Operation, Unary};
 use crate::{MAX_BLOCK, MAX_NODES, MAX_VALUES, WIDEST_BLOCK, WIDEST_NODES, WIDEST_VALUES};
 use serde_json::Value;
 use tensor_ops::{BinaryScalar, Bounds, LineOperation, Reducer, UnaryScalar, WIDEST};
+
+/// The operations by name: first those of version 1, then those that versions 2 and 3 add.
+const OPERATIONS: &[(&str, Operation)] = &[
+    ("neg", One(Each(UnaryScalar::Neg))),
+    ("abs", One(Each(UnaryScalar::Abs))),
+    ("square", One(Each(UnaryScalar::Square))),
+    ("not", One(Each(UnaryScalar::Not))),
+    ("add", Two(Pairwise(BinaryScalar::Add))),
+    ("sub", Two(Pairwise(BinaryScalar::Sub))),
+    ("mul", Two(Pairwise(BinaryScalar::Mul))),
+    ("cwise_max", Two(Pairwise(BinaryScalar::CwiseMax))),
+    ("cwise_min", Two(Pairwise(BinaryScalar::CwiseMin))),
+    ("lt", Two(Pairwise(BinaryScalar::Lt))),
+    ("le", Two(Pairwise(BinaryScalar::Le))),
+    ("eq", Two(Pairwise(BinaryScalar::Eq))),
+    ("ne", Two(Pairwise(BinaryScalar::Ne))),
+    ("gt", Two(Pairwise(BinaryScalar::Gt))),
+    ("ge", Two(Pairwise(BinaryScalar::Ge))),
+    ("and", Two(Pairwise(BinaryScalar::And))),
+    ("or", Two(Pairwise(BinaryScalar::Or))),
+    ("select", Operation::Select),
+    ("constant", One(Unary::Constant)),
+    ("broadcast", One(Unary::Broadcast)),
+    ("slice", One(Unary::Slice)),
+    ("shuffle", One(Unary::Shuffle)),
+    ("reshape", One(Unary::Reshape)),
+    ("chip", One(Unary::Chip)),
+    ("reverse", One(Unary::Reverse)),
+    ("sum", One(Reduce(Reducer::Sum))),
+    ("prod", One(Reduce(Reducer::Prod))),
+    ("maximum", One(Reduce(Reducer::Max))),
+    ("minimum", One(Reduce(Reducer::Min))),
+    ("all", One(Reduce(Reducer::All))),
+    ("any", One(Reduce(Reducer::Any))),
+    ("contract", Two(Binary::Contract)),
+    ("stride", One(Unary::Stride)),
+    ("pad", One(Unary::Pad)),
+    ("concat", Two(Binary::Concat)),
+    ("convolve", Two(Binary::Convolve)),
+    ("floor_divide", Two(Pairwise(BinaryScalar::FloorDivide))),
+    ("remainder", Two(Pairwise(BinaryScalar::Remainder))),
+    ("bit_and", Two(Pairwise(BinaryScalar::BitAnd))),
+    ("bit_or", Two(Pairwise(BinaryScalar::BitOr))),
+    ("bit_xor", Two(Pairwise(BinaryScalar::BitXor))),
+    ("bit_not", One(Each(UnaryScalar::BitNot))),
+    ("bit_count", One(Each(UnaryScalar::BitCount))),
+    ("shift_left", Two(Pairwise(BinaryScalar::ShiftLeft))),
+    ("shift_right", Two(Pairwise(BinaryScalar::ShiftRight))),
+    ("cumsum", One(Along(LineOperation::Cumsum))),
+    ("cumprod", One(Along(LineOperation::Cumprod))),
+    ("argmax", One(Along(LineOperation::Argmax))),
+    ("argmin", One(Along(LineOperation::Argmin))),
+    ("take", Two(Binary::Take)),
+];
 
 /// A version of a request.
 #[derive(Clone, Copy, Debug, Eq, PartialEq)]
@@ -36,7 +90,8 @@ pub(crate) enum Versions {
 
 impl Version {
     ghost use Rattle.expr_reader.specs.Profile.{operation_named};
-    ghost use Rattle.expr_reader.specs.private.Version.{profile_under, versions_under, operation_under};
+    ghost use Rattle.expr_reader.specs.private.Version.{profile_under, versions_under};
+    ghost use Rattle.expr_reader.specs.private.Version.{operation_under, table_under};
 
     /// Returns the version with this number, if it is one of `versions`.
     pub(crate) fn of(number: u64, versions: Versions) -> Option<Version>
@@ -118,141 +173,39 @@ impl Version {
         ensures { option_map operation_under result
             ≡ operation_named name.now (profile_under self).operations }
     {
+        operation_in(self.operations(), name)
+    }
+
+    /// Returns the operations by name.
+    fn operations(self) -> &'static [(&'static str, Operation)]
+        ensures { table_under result.now ≡ (profile_under self).operations }
+    {
         match self {
-            Version::One => first_operation(name),
-            Version::Two => second_operation(name),
-            Version::Three => third_operation(name),
+            Version::One => &OPERATIONS[..32],
+            Version::Two => &OPERATIONS[..36],
+            Version::Three => OPERATIONS,
         }
     }
 }
 
-/// Returns the operation with this name in version 1. Three tables are searched, since the prover
-/// has to see for each arm of a table that its name differs from all names before it.
-fn first_operation(name: &str) -> Option<Operation>
-    ensures { option_map operation_under result ≡ operation_named name.now operations_1 }
+/// Returns how many operands the operation with this name has in a version.
+pub fn operands_in(version: u64, name: &str) -> Option<usize>
+    ensures { result ≡ option_and_then (λ profile. option_map operands_of
+        (operation_named name.now profile.operations)) (frame_profile_of version) }
 {
-    operation_on_values(name)
-        .or(movement(name))
-        .or(operation_along_axes(name))
+    let operation = Version::of(version, Versions::OfFrames)?.operation(name)?;
+    Some(operation.operands())
 }
 
-/// Returns the operation with this name in version 2.
-fn second_operation(name: &str) -> Option<Operation>
-    ensures { option_map operation_under result ≡ operation_named name.now operations_2 }
-{
-    first_operation(name).or(added_operation(name))
-}
-
-/// Returns the operation with this name in version 3.
-fn third_operation(name: &str) -> Option<Operation>
-    ensures { option_map operation_under result ≡ operation_named name.now operations_3 }
-{
-    second_operation(name)
-        .or(operation_on_integers(name))
-        .or(operation_along_one_axis(name))
-}
-
-/// Returns the operation with this name that computes each value from the operands' values at its
-/// own place.
-fn operation_on_values(name: &str) -> Option<Operation>
-    ensures { option_map operation_under result ≡ operation_named name.now operations_on_values }
-{
-    match name {
-        "neg" => Some(Operation::One(Unary::Each(UnaryScalar::Neg))),
-        "abs" => Some(Operation::One(Unary::Each(UnaryScalar::Abs))),
-        "square" => Some(Operation::One(Unary::Each(UnaryScalar::Square))),
-        "not" => Some(Operation::One(Unary::Each(UnaryScalar::Not))),
-        "add" => Some(Operation::Two(Binary::Pairwise(BinaryScalar::Add))),
-        "sub" => Some(Operation::Two(Binary::Pairwise(BinaryScalar::Sub))),
-        "mul" => Some(Operation::Two(Binary::Pairwise(BinaryScalar::Mul))),
-        "cwise_max" => Some(Operation::Two(Binary::Pairwise(BinaryScalar::CwiseMax))),
-        "cwise_min" => Some(Operation::Two(Binary::Pairwise(BinaryScalar::CwiseMin))),
-        "lt" => Some(Operation::Two(Binary::Pairwise(BinaryScalar::Lt))),
-        "le" => Some(Operation::Two(Binary::Pairwise(BinaryScalar::Le))),
-        "eq" => Some(Operation::Two(Binary::Pairwise(BinaryScalar::Eq))),
-        "ne" => Some(Operation::Two(Binary::Pairwise(BinaryScalar::Ne))),
-        "gt" => Some(Operation::Two(Binary::Pairwise(BinaryScalar::Gt))),
-        "ge" => Some(Operation::Two(Binary::Pairwise(BinaryScalar::Ge))),
-        "and" => Some(Operation::Two(Binary::Pairwise(BinaryScalar::And))),
-        "or" => Some(Operation::Two(Binary::Pairwise(BinaryScalar::Or))),
-        "select" => Some(Operation::Select),
-        "constant" => Some(Operation::One(Unary::Constant)),
-        _ => None,
-    }
-}
-
-/// Returns the movement with this name.
-fn movement(name: &str) -> Option<Operation>
-    ensures { option_map operation_under result ≡ operation_named name.now movements }
-{
-    match name {
-        "broadcast" => Some(Operation::One(Unary::Broadcast)),
-        "slice" => Some(Operation::One(Unary::Slice)),
-        "shuffle" => Some(Operation::One(Unary::Shuffle)),
-        "reshape" => Some(Operation::One(Unary::Reshape)),
-        "chip" => Some(Operation::One(Unary::Chip)),
-        "reverse" => Some(Operation::One(Unary::Reverse)),
-        _ => None,
-    }
-}
-
-/// Returns the reduction with this name, or the contraction.
-fn operation_along_axes(name: &str) -> Option<Operation>
-    ensures { option_map operation_under result ≡ operation_named name.now operations_along_axes }
-{
-    match name {
-        "sum" => Some(Operation::One(Unary::Reduce(Reducer::Sum))),
-        "prod" => Some(Operation::One(Unary::Reduce(Reducer::Prod))),
-        "maximum" => Some(Operation::One(Unary::Reduce(Reducer::Max))),
-        "minimum" => Some(Operation::One(Unary::Reduce(Reducer::Min))),
-        "all" => Some(Operation::One(Unary::Reduce(Reducer::All))),
-        "any" => Some(Operation::One(Unary::Reduce(Reducer::Any))),
-        "contract" => Some(Operation::Two(Binary::Contract)),
-        _ => None,
-    }
-}
-
-/// Returns the operation with this name that version 2 adds.
-fn added_operation(name: &str) -> Option<Operation>
-    ensures { option_map operation_under result ≡ operation_named name.now operations_added }
-{
-    match name {
-        "stride" => Some(Operation::One(Unary::Stride)),
-        "pad" => Some(Operation::One(Unary::Pad)),
-        "concat" => Some(Operation::Two(Binary::Concat)),
-        "convolve" => Some(Operation::Two(Binary::Convolve)),
-        _ => None,
-    }
-}
-
-/// Returns the operation on integers with this name, which version 3 adds.
-fn operation_on_integers(name: &str) -> Option<Operation>
-    ensures { option_map operation_under result ≡ operation_named name.now operations_on_integers }
-{
-    match name {
-        "floor_divide" => Some(Operation::Two(Binary::Pairwise(BinaryScalar::FloorDivide))),
-        "remainder" => Some(Operation::Two(Binary::Pairwise(BinaryScalar::Remainder))),
-        "bit_and" => Some(Operation::Two(Binary::Pairwise(BinaryScalar::BitAnd))),
-        "bit_or" => Some(Operation::Two(Binary::Pairwise(BinaryScalar::BitOr))),
-        "bit_xor" => Some(Operation::Two(Binary::Pairwise(BinaryScalar::BitXor))),
-        "bit_not" => Some(Operation::One(Unary::Each(UnaryScalar::BitNot))),
-        "shift_left" => Some(Operation::Two(Binary::Pairwise(BinaryScalar::ShiftLeft))),
-        "shift_right" => Some(Operation::Two(Binary::Pairwise(BinaryScalar::ShiftRight))),
-        _ => None,
-    }
-}
-
-/// Returns the operation along one axis with this name, which version 3 adds.
-fn operation_along_one_axis(name: &str) -> Option<Operation>
+/// Returns the first operation with this name in a table.
+fn operation_in(table: &[(&str, Operation)], name: &str) -> Option<Operation>
     ensures { option_map operation_under result
-        ≡ operation_named name.now operations_along_one_axis }
+        ≡ operation_named name.now (table_under table.now) }
 {
-    match name {
-        "cumsum" => Some(Operation::One(Unary::Along(LineOperation::Cumsum))),
-        "cumprod" => Some(Operation::One(Unary::Along(LineOperation::Cumprod))),
-        "argmax" => Some(Operation::One(Unary::Along(LineOperation::Argmax))),
-        "argmin" => Some(Operation::One(Unary::Along(LineOperation::Argmin))),
-        "take" => Some(Operation::Two(Binary::Take)),
-        _ => None,
+    for row in table {
+        if name == row.0 {
+            return Some(row.1);
+        }
     }
+    None
 }

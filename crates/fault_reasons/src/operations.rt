@@ -1,6 +1,7 @@
-//! What each operation takes, for the words of reasons. It repeats the table of `expr_reader`
-//! (`specs/Table` there) with the names of arguments of docs/REQUEST.md: an operation that is added
-//! there is added here.
+//! What each operation takes, for the words of reasons: the operands as `expr_reader` has them, and
+//! the arguments with their names of docs/REQUEST.md. A new operation with arguments is added here.
+
+use expr_reader::operands_in;
 
 /// The form of an argument.
 #[derive(Clone, Copy, Debug, Eq, PartialEq)]
@@ -64,115 +65,46 @@ impl Operation {
 
 /// Returns the operation with this name, of any version.
 pub(crate) fn known_operation(name: &str) -> Option<Operation> {
-    on_values(name)
-        .or(movement(name))
-        .or(along_axes(name))
-        .or(added(name))
-        .or(on_integers(name))
-        .or(along_one_axis(name))
-}
-
-/// Returns an operation of version 1 without arguments.
-fn plain(operands: usize) -> Operation {
-    Operation {
-        version: 1,
-        operands,
-        first: None,
-        second: None,
-    }
-}
-
-/// Returns an operation of version 1 with one argument after its operands.
-fn with(operands: usize, name: &'static str, form: Form) -> Operation {
-    Operation {
-        first: Some(Argument { name, form }),
-        ..plain(operands)
-    }
-}
-
-fn on_values(name: &str) -> Option<Operation> {
-    match name {
-        "neg" | "abs" | "square" | "not" => Some(plain(1)),
-        "add" | "sub" | "mul" | "cwise_max" | "cwise_min" => Some(plain(2)),
-        "lt" | "le" | "eq" | "ne" | "gt" | "ge" | "and" | "or" => Some(plain(2)),
-        "select" => Some(plain(3)),
-        "constant" => Some(with(1, "VALUE", Form::Value)),
-        _ => None,
-    }
-}
-
-fn movement(name: &str) -> Option<Operation> {
-    match name {
-        "broadcast" => Some(with(1, "COUNTS", Form::Sizes)),
-        "slice" => Some(Operation {
-            second: Some(Argument {
-                name: "EXTENTS",
-                form: Form::Sizes,
-            }),
-            ..with(1, "OFFSETS", Form::Sizes)
-        }),
-        "shuffle" => Some(with(1, "ORDER", Form::Sizes)),
-        "reshape" => Some(with(1, "SIZES", Form::Sizes)),
-        "chip" => Some(Operation {
-            second: Some(Argument {
-                name: "AXIS",
-                form: Form::Size,
-            }),
-            ..with(1, "OFFSET", Form::Size)
-        }),
-        "reverse" => Some(with(1, "FLAGS", Form::Flags)),
-        _ => None,
-    }
-}
-
-fn along_axes(name: &str) -> Option<Operation> {
-    match name {
-        "sum" | "prod" | "maximum" | "minimum" | "all" | "any" => {
-            Some(with(1, "AXES", Form::Sizes))
+    for version in 1..4 {
+        if let Some(operands) = operands_in(version, name) {
+            return Some(Operation {
+                version,
+                operands,
+                first: first_argument(name),
+                second: second_argument(name),
+            });
         }
-        "contract" => Some(with(2, "PAIRS", Form::Pairs)),
-        _ => None,
     }
+    None
 }
 
-/// Returns the operation with this name that version 2 adds.
-fn added(name: &str) -> Option<Operation> {
-    let operation = match name {
-        "stride" => with(1, "STEPS", Form::Sizes),
-        "pad" => with(1, "PAIRS", Form::Pairs),
-        "concat" => with(2, "AXIS", Form::Size),
-        "convolve" => with(2, "AXES", Form::Sizes),
+/// Returns the first argument of an operation.
+fn first_argument(operation: &str) -> Option<Argument> {
+    let (name, form) = match operation {
+        "constant" => ("VALUE", Form::Value),
+        "broadcast" => ("COUNTS", Form::Sizes),
+        "slice" => ("OFFSETS", Form::Sizes),
+        "shuffle" => ("ORDER", Form::Sizes),
+        "reshape" => ("SIZES", Form::Sizes),
+        "chip" => ("OFFSET", Form::Size),
+        "reverse" => ("FLAGS", Form::Flags),
+        "stride" => ("STEPS", Form::Sizes),
+        "pad" | "contract" => ("PAIRS", Form::Pairs),
+        "sum" | "prod" | "maximum" | "minimum" | "all" | "any" | "convolve" => {
+            ("AXES", Form::Sizes)
+        }
+        "concat" | "cumsum" | "cumprod" | "argmax" | "argmin" | "take" => ("AXIS", Form::Size),
         _ => return None,
     };
-    Some(Operation {
-        version: 2,
-        ..operation
-    })
+    Some(Argument { name, form })
 }
 
-/// Returns the operation on integers with this name, which version 3 adds.
-fn on_integers(name: &str) -> Option<Operation> {
-    let operands = match name {
-        "bit_not" => 1,
-        "floor_divide" | "remainder" | "bit_and" | "bit_or" | "bit_xor" => 2,
-        "shift_left" | "shift_right" => 2,
+/// Returns the second argument of an operation.
+fn second_argument(operation: &str) -> Option<Argument> {
+    let (name, form) = match operation {
+        "slice" => ("EXTENTS", Form::Sizes),
+        "chip" => ("AXIS", Form::Size),
         _ => return None,
     };
-    Some(Operation {
-        version: 3,
-        ..plain(operands)
-    })
-}
-
-/// Returns the operation along one axis with this name, which version 3 adds.
-fn along_one_axis(name: &str) -> Option<Operation> {
-    let operands = match name {
-        "cumsum" | "cumprod" | "argmax" | "argmin" => 1,
-        "take" => 2,
-        _ => return None,
-    };
-    Some(Operation {
-        version: 3,
-        ..with(operands, "AXIS", Form::Size)
-    })
+    Some(Argument { name, form })
 }

@@ -15,7 +15,6 @@ use Rattle.std.specs.Io.KnownBytes.{Appends}
 use Rattle.expr_reader.specs.Asked.{asked_under}
 use Rattle.expr_reader.specs.Frame.{frame_inputs, request_of_frame, values_limit}
 use Rattle.expr_reader.specs.Place.{here, unlocated}
-use Rattle.expr_reader.specs.Contents.{Contents}
 use Rattle.expr_reader.specs.Profile.{frame_profile_of}
 use Rattle.expr_reader.specs.Request.{Asked, asked_tensor, text_asked}
 use Rattle.expr_reader.specs.declared.request.Request.{Request}
@@ -41,6 +40,8 @@ use Rattle.frame_server.specs.NotedFrames.{Says}
 use Rattle.frame_server.specs.private.Taking.{IsTooLong, IsPassed, frame_under}
 use Rattle.frame_server.specs.declared.frame.AnswerFrame.{AnswerFrame}
 use Rattle.frame_server.specs.declared.frame.WholeFrame.{WholeFrame}
+use Rattle.tensor_runner.proofs.Lines.{fault_of}
+use Rattle.tensor_runner.proofs.Refused.{fault_is_no_tensor, steps-fault, memory_of}
 use Rattle.frame_server.proofs.Frames.{length-values_of}
 use Rattle.frame_server.proofs.Limit.{limit-between}
 use Rattle.frame_server.proofs.Written.{length-values}
@@ -232,9 +233,6 @@ pub IsOwnFrame-tensor : (over : Option LimitFault) (seconds : Option ℕ) (a : A
 IsOwnFrame-tensor over seconds a frame is own = subst (λ (o : Option LimitFault). IsOwnFrame o seconds a frame) (sym is) own
 
 -- the frame of a fault
-fault_is_no_tensor : (f : Fault) (t : Contents) → fault f ≡ tensor t → ⊥
-fault_is_no_tensor f t is = cc
-
 fault-frame : (limits : Limits) (r : Result Asked Fault) (f : Fault) → fault f ≡ answer_from r
     → answer_bytes (fault f) ≡ frame_unless (refusal limits r) (answer_bytes (answer_from r))
 fault-frame limits (Ok a) f is = absurd (fault_is_no_tensor f (asked_tensor a) is)
@@ -246,13 +244,6 @@ IsFrameRead-fault limits bytes f answer (inl own) is = inl (is ∙ fault-frame l
 IsFrameRead-fault limits bytes f answer (inr memory) is = inr (inl (is ∙ ap answer_bytes memory.0, memory.1))
 
 -- what is no request has no steps
-steps-fault : (limits : Limits) (logs : Bool) (r : Result Asked Fault) (f : Fault) → fault f ≡ answer_from r → steps_in limits logs r ≡ None
-steps-fault limits logs (Ok a) f is = absurd (fault_is_no_tensor f (asked_tensor a) is)
-steps-fault limits logs (Err g) f is = refl
-
-memory_of : (f : Fault) → fault f ≡ fault NoMemory → f ≡ NoMemory
-memory_of f is = cc
-
 HasSteps-none : (limits : Limits) (logs : Bool) (bytes : List ℕ) (f : Fault) (o : Option AnyFault) (steps : Option ℕ) → IsFaultOf bytes f → o ≡ Some (any.Request f) → steps ≡ None
     → HasSteps limits logs (request_in (frame_in bytes)) o steps
 HasSteps-none limits logs bytes f o steps (inl own) is none = inl (none ∙ sym (steps-fault limits logs (request_in (frame_in bytes)) f own))
@@ -266,13 +257,6 @@ IsFrameUnder-fault limits logs bytes f frame of is none = record {
   has = HasSteps-none limits logs bytes f frame.fault frame.steps of is.fault none;
 }
 
--- the first fault of a frame, or `NoMemory`
-pub IsFaultOf-asked : (bytes : List ℕ) (frame : WholeFrame) (f : Fault) → frame_under frame ≡ frame_in bytes
-    → (f ≡ NoMemory) ⊎ (request_of_frame frame.header.items frame.values.items ≡ Err f) → IsShort (header_len bytes) (value_count bytes)
-    → IsFaultOf bytes f
-IsFaultOf-asked bytes frame f same (inl memory) short = inr (ap fault memory, short)
-IsFaultOf-asked bytes frame f same (inr asks) short = inl (sym (ap answer_of (sym same) ∙ ap answer_from asks))
-
 -- a header and values that aren't short are too long
 IsShort-long : (header : List ℕ) (header_len value_count : ℕ) → IsTooLong header header_len value_count ⊎ IsShort header_len value_count
 IsShort-long header header_len value_count = elim (dec_le header_len most_bytes) [
@@ -282,9 +266,6 @@ IsShort-long header header_len value_count = elim (dec_le header_len most_bytes)
     | yes few ↦ inr (record { header = short; values = few })
   ]
 ]
-
-fault_of : (f : Fault) → fault f ≡ fault TooLong → f ≡ TooLong
-fault_of f is = cc
 
 -- a fault that isn't of a frame that is too long
 pub short-fault : (bytes : List ℕ) (f : Fault) → IsWhole bytes → IsFaultOf bytes f → f ≢ TooLong → IsShort (header_len bytes) (value_count bytes)

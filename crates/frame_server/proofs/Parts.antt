@@ -1,8 +1,7 @@
 -- The parts of a frame, one behind the other.
-use Rattle.std.proofs.Common.{◌≡◌, ◌<◌, ◌≤◌, ◌+◌, ◌*◌, ◌-◌, ℕ, List, [], ◌++◌, length, take, drop, Option}
+use Rattle.std.proofs.Common.{◌≡◌, ◌≤◌, ◌+◌, ◌*◌, ◌-◌, ℕ, List, [], ◌++◌, length, take, drop, Option}
 use Rattle.std.proofs.Common.{ℤ, refl, ap, sym, ◌∙◌, subst, arith, length-append, inl, inr}
 use Rattle.std.proofs.lemmas.List.{take_at, drop_at, length-take-le}
-use Rattle.std.specs.Io.KnownBytes.{IsAtEnd}
 use Rattle.message_server.specs.History.{History}
 use Rattle.message_server.specs.Streams.{HasFailed}
 use Rattle.expr_reader.specs.Frame.{values_limit}
@@ -17,7 +16,7 @@ use Rattle.frame_server.specs.declared.frame.Head.{Head}
 use Rattle.frame_server.specs.declared.frame.NextFrame.{NextFrame}
 use Rattle.frame_server.specs.declared.frame.NextFrame.TheVariants.{Whole, Passed}
 use Rattle.frame_server.specs.private.Laws.{header_len-append, value_count-append}
-use Rattle.frame_server.proofs.Frames.{IsUnfinished-head, IsUnfinished-short, IsWhole-head, frame_in-head, values_of-append, length-values_of}
+use Rattle.frame_server.proofs.Frames.{IsUnfinished-head, IsWhole-head, frame_in-head, values_of-append, length-values_of}
 use Rattle.message_server.proofs.Takings.{Takes-none, Takes-then, Takes-wait, Takes-move, FailsIn-on}
 
 pub TakesValues-none : (a : Option (List ℕ)) (h : Option History) (old : List ℕ) (values : List ℤ) → values ≡ [] → TakesValues a a h h old old values
@@ -49,9 +48,6 @@ TakesValues-move a b h k old mid new values now most t m =
           ∙ sym (values_of-append (length values) m.count t.bytes piece t.counted)
           ∙ ap (λ (n : ℕ). values_of n (t.bytes ++ piece)) (sym len);
     }
-
-pub TakesCount-none : (a : Option (List ℕ)) (h : Option History) (old : List ℕ) (n : ℕ) → TakesCount (n - n) a a h h old old
-TakesCount-none a h old n = record { bytes = []; takes = Takes-none a h old; counted = omega arith }
 
 pub TakesCount-wait : (n : ℕ) (a b c : Option (List ℕ)) (h k m : Option History) (old mid new : List ℕ)
     → TakesCount n a b h k old mid → Takes b c k m mid new [] → TakesCount n a c h m old new
@@ -169,32 +165,3 @@ StopsInFrame-behind a b c h k first failed fails old mid head t same f cut =
         | inr ended ↦ inr (ended.0 ∙ same, ended.1, omega (arith, all.kind.1))
       ];
     }
-
--- the head itself was taken
-pub TakesHead-of : (a b : Option (List ℕ)) (h k : Option History) (old mid new : List ℕ) (head : Head)
-    → Takes a b h k old mid [] → 16 ≤ length mid → IsHeadOf (take 16 mid) head → new ≡ drop 16 mid → TakesHead a b h k old new head
-TakesHead-of a b h k old mid new head t some told left = record {
-  bytes = take 16 mid;
-  takes = Takes-move a b h k old mid new [] (take 16 mid) 16 t left refl;
-  counted = length-take-le 16 mid some;
-  told = told;
-}
-
--- the reading stopped in a head
-pub StopsInFrame-head : (a b : Option (List ℕ)) (failed fails : ℕ) (old : List ℕ) → FailsIn (IsBelow 16) a b old → HasFailed failed fails
-    → StopsInFrame a b failed fails old
-StopsInFrame-head a b failed fails old f broke = record {
-  read = f.read;
-  consumed = f.consumed;
-  unfinished = IsUnfinished-short (old ++ f.read) f.kind;
-  why = inl broke;
-}
-
-pub StopsInFrame-ends : (a b : Option (List ℕ)) (h k : Option History) (failed fails : ℕ) (old mid : List ℕ)
-    → Takes a b h k old mid [] → IsBelow 16 mid → 0 < length mid → IsAtEnd b → fails ≡ failed → StopsInFrame a b failed fails old
-StopsInFrame-ends a b h k failed fails old mid t few some end same = record {
-  read = t.read;
-  consumed = t.reads.consumed;
-  unfinished = subst IsUnfinished (sym t.parted) (IsUnfinished-short mid few);
-  why = inr (same, end, omega (arith, some, ap length t.parted));
-}

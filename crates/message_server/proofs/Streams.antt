@@ -2,7 +2,7 @@
 use Rattle.std.proofs.Common.{◌≡◌, ℕ, zero, suc, ◌<◌, Result, Ok, Err, OnErr, List, [], ◌+◌, ◌-◌, ◌++◌, length}
 use Rattle.std.proofs.Common.{take, drop, Option, Some, None, OnOk, refl, ap, sym, ◌∙◌, subst, append_assoc, arith}
 use Rattle.message_server.specs.Streams.{took_some, failures_after}
-use Rattle.std.specs.Io.KnownBytes.{Appends, Consumes, Keeps}
+use Rattle.std.specs.Io.KnownBytes.{Appends, Consumes}
 use Rattle.std.proofs.lemmas.List.{append-nil, take_all, length-drop}
 use Rattle.std.proofs.Math.Seq.{take-add}
 
@@ -17,18 +17,6 @@ Consumes-trans (Some all) (Some bs) (Some cs) xs ys h k = h ∙ ap (λ t. xs ++ 
 pub Consumes-none : (a : Option (List ℕ)) → Consumes a a []
 Consumes-none None = tt
 Consumes-none (Some all) = refl
-
--- nothing is consumed where known bytes stay
-pub Consumes-keeps_none : (a b : Option (List ℕ)) → Keeps a b → Consumes a b []
-Consumes-keeps_none None b same = tt
-Consumes-keeps_none (Some all) None same = absurd same
-Consumes-keeps_none (Some all) (Some bs) same = sym same
-
-pub Consumes-keeps : (a b c : Option (List ℕ)) (xs : List ℕ) → Consumes a b xs → Keeps b c → Consumes a c xs
-Consumes-keeps None b c xs taken same = tt
-Consumes-keeps (Some all) None c xs taken same = absurd taken
-Consumes-keeps (Some all) (Some bs) None xs taken same = absurd same
-Consumes-keeps (Some all) (Some bs) (Some cs) xs taken same = taken ∙ ap (λ (l : List ℕ). xs ++ l) (sym same)
 
 -- what was consumed of what is known
 pub Consumes-Some : (text : List ℕ) (b : Option (List ℕ)) (xs : List ℕ) → Consumes (Some text) b xs

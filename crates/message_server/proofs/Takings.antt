@@ -3,11 +3,10 @@ use Rattle.std.proofs.Common.{◌≡◌, ◌≤◌, ◌+◌, ◌-◌, ℕ, List,
 use Rattle.std.proofs.Common.{ap, sym, ◌∙◌, subst, append_assoc, arith}
 use Rattle.std.proofs.lemmas.List.{append-nil, take-append-drop, drop-drop, drop-take, length-take, length-take-le, take-append-le}
 use Rattle.std.proofs.Math.Seq.{take-append-add}
-use Rattle.std.specs.Io.KnownBytes.{Keeps}
 use Rattle.message_server.specs.History.{History}
 use Rattle.message_server.specs.Pieces.{OwesNothingWhile, Reads, Takes, FailsIn}
 use Rattle.message_server.proofs.Histories.{reading-none, Reads-trans}
-use Rattle.message_server.proofs.Streams.{Consumes-keeps, Consumes-none, Consumes-trans}
+use Rattle.message_server.proofs.Streams.{Consumes-none, Consumes-trans}
 
 -- what is so of a value that is there
 pub at_some : {A : Type 0} (o : Option A) (x : A) (N : Type 0) (S : A → Type 0) → o ≡ Some x → MatchOption o N S → S x
@@ -101,13 +100,6 @@ owes-on P Q owes a b (Some h) k old mid got holds t kind =
     subst (λ (l : List ℕ). owes (record { taken = l; written = h.written })) all
     (holds (t.read ++ more) (subst P (sym same) (kind (mid ++ more) is))))
 
--- so that a read may be
-pub owes-now : (P : List ℕ → Type 0) (owes : History → Type 0) (a b : Option (List ℕ)) (h k : Option History) (old mid : List ℕ)
-    → IfSome h (OwesNothingWhile P owes old) → Takes a b h k old mid [] → P mid → IfSome k owes
-owes-now P owes a b None k old mid holds t is = subst (λ (o : Option History). IfSome o owes) (sym t.reads.noted) tt
-owes-now P owes a b (Some h) k old mid holds t is =
-    subst (λ (o : Option History). IfSome o owes) (sym t.reads.noted) (holds t.read (subst P (sym t.parted) is))
-
 -- a read failed after some bytes were taken
 pub FailsIn-on : (P Q : List ℕ → Type 0) (a b c : Option (List ℕ)) (h k : Option History) (old mid got : List ℕ)
     → Takes a b h k old mid got → FailsIn Q b c mid → ((xs : List ℕ) → Q xs → P (got ++ xs)) → FailsIn P a c old
@@ -119,15 +111,6 @@ FailsIn-on P Q a b c h k old mid got t f kind =
       consumed = Consumes-trans a b c t.read f.read t.reads.consumed f.consumed;
       kind = subst P (sym same) (kind (mid ++ f.read) f.kind);
     }
-
--- a read failed that took nothing
-pub FailsIn-keeps : (P : List ℕ → Type 0) (a b c : Option (List ℕ)) (h k : Option History) (old mid : List ℕ)
-    → Takes a b h k old mid [] → Keeps b c → P mid → FailsIn P a c old
-FailsIn-keeps P a b c h k old mid t same is = record {
-  read = t.read;
-  consumed = Consumes-keeps a b c t.read t.reads.consumed same;
-  kind = subst P (sym t.parted) is;
-}
 
 -- the bytes ended after some were taken
 pub FailsIn-ends : (P : List ℕ → Type 0) (a b : Option (List ℕ)) (h k : Option History) (old mid got : List ℕ)

@@ -1,5 +1,5 @@
 -- Arrays dealt to inputs, one after another.
-use Rattle.std.proofs.Common.{◌≡◌, ◌<◌, ◌≤◌, ◌≢◌, ◌&&◌, ◌==◌, ℕ, zero, suc, ℤ, Bool, true, false, List, [], ◌∷◌, ◌++◌, length, take, drop, nat_le}
+use Rattle.std.proofs.Common.{◌≡◌, ◌<◌, ◌≤◌, ◌≢◌, ◌+◌, ◌^◌, ◌&&◌, ◌==◌, ℕ, zero, suc, ℤ, Bool, true, false, List, [], ◌∷◌, ◌++◌, length, take, drop, nat_le}
 use Rattle.std.proofs.Common.{◌↔◌, is_ok, Result, Ok, Err, if◌then◌else◌, refl, ap, sym, ◌∙◌, subst, inl, inr, arith, append_assoc}
 use Rattle.std.proofs.lemmas.Bool.{and_parts, and_from, le-leb, leb-true}
 use Rattle.std.proofs.lemmas.List.{take-append-drop, length-append, length-take}
@@ -11,7 +11,7 @@ use Rattle.tensor_shape.specs.declared.shape_fault.ShapeFault.{ShapeFault}
 use Rattle.tensor_shape.specs.declared.shape_fault.ShapeFault.TheVariants.{RankTooHigh, TooManyElements}
 use Rattle.tensor_terms.specs.Contents.{Contents, AreWithin, input_of}
 use Rattle.prepared_expressions.specs.private.Dealing.{Dealing, One, one_from, after, next_from, all_from}
-use Rattle.prepared_expressions.specs.Prepared.{recorded_dims, all_legal, dims_of_all, values_of_all, before, dealt, Begins, Prepared, IsPrepared, IsRecordable, form_of, record_of, terms_of}
+use Rattle.prepared_expressions.specs.Prepared.{recorded_dims, all_legal, dims_of_all, before, dealt, Begins, Prepared, IsPrepared, IsRecordable, form_of, record_of, terms_of}
 use Rattle.tensor_terms.specs.Term.{Term}
 use Rattle.prepared_expressions.specs.Recorded.{recorded_all}
 use Rattle.expr_reader.specs.Arrays.{arrays_under}
@@ -30,7 +30,6 @@ after-after xs ys (Err f) = refl
 -- what was read of a tensor's dims is recorded, and is legal
 pub record IsOne (bounds : Bounds) (vs : List ℤ) (ns : List ℕ) (one : One) : Type 0 where
   pub numbers : ns ≡ length one.tensor.dims ∷ one.tensor.dims ++ one.rest
-  pub values : one.tensor.values ≡ vs
   pub legal : are_legal bounds one.tensor.dims ≡ true
 
 one_from-back : (bounds : Bounds) (vs : List ℤ) (ns : List ℕ) (one : One) → one_from bounds vs ns ≡ Ok one → IsOne bounds vs ns one
@@ -51,18 +50,18 @@ one_from-back bounds vs (n ∷ ns) one is =
         let made : One = record { tensor = record { dims = take n ns; values = vs }; rest = drop n ns } in
         let same : made ≡ one = cc in
         subst (IsOne bounds vs (n ∷ ns)) same
-        (record { numbers = rw (long, take-append-drop n ns) refl; values = refl; legal = both.1 })
+        (record { numbers = rw (long, take-append-drop n ns) refl; legal = both.1 })
 
 -- what is dealt of the dims of all tensors
 pub record IsAll (bounds : Bounds) (arrays : List (List ℤ)) (ns : List ℕ) (d : Dealing) : Type 0 where
   pub numbers : ns ≡ recorded_dims (dims_of_all d.tensors) d.rest
-  pub values : values_of_all d.tensors ≡ arrays
+  pub many : length d.tensors ≡ length arrays
   pub legal : all_legal bounds (dims_of_all d.tensors) ≡ true
 
 pub all_from-back : (bounds : Bounds) (arrays : List (List ℤ)) (ns : List ℕ) (d : Dealing) → all_from bounds arrays ns ≡ Ok d → IsAll bounds arrays ns d
 all_from-back bounds [] ns d is =
     let made : Dealing = record { tensors = []; rest = ns } in
-    let same : made ≡ d = cc in subst (IsAll bounds [] ns) same (record { numbers = refl; values = refl; legal = refl })
+    let same : made ≡ d = cc in subst (IsAll bounds [] ns) same (record { numbers = refl; many = refl; legal = refl })
 all_from-back bounds (vs ∷ arrays) ns d is = by_one (λ ms e found. all_from-back bounds arrays ms e found) (one_from bounds vs ns) refl is
   where
     by_rest : ((ms : List ℕ) (e : Dealing) → all_from bounds arrays ms ≡ Ok e → IsAll bounds arrays ms e)
@@ -76,7 +75,7 @@ all_from-back bounds (vs ∷ arrays) ns d is = by_one (λ ms e found. all_from-b
         subst (IsAll bounds (vs ∷ arrays) ns) same
         (record {
           numbers = first.numbers ∙ ap (λ l. (length one.tensor.dims ∷ one.tensor.dims) ++ l) more.numbers;
-          values = ap (λ v. v ∷ values_of_all e.tensors) first.values ∙ ap (λ l. vs ∷ l) more.values;
+          many = ap suc more.many;
           legal = and_from (are_legal bounds one.tensor.dims) (all_legal bounds (dims_of_all e.tensors)) first.legal more.legal;
         })
 
@@ -134,6 +133,25 @@ dealt-other (d ∷ ds) (vs ∷ arrays) other =
     by_size true rest = rw rest refl
     by_size false rest = refl
 
+-- arrays that are dealt have the dims that they are dealt to
+pub dims_of_all-dealt : (ds : List (List ℕ)) (arrays : List (List ℤ)) (ts : List Contents) → dealt ds arrays ≡ Ok ts → dims_of_all ts ≡ ds
+dims_of_all-dealt [] [] [] is = refl
+dims_of_all-dealt [] [] (t ∷ ts) is = absurd (cc)
+dims_of_all-dealt [] (vs ∷ arrays) ts is = absurd (cc)
+dims_of_all-dealt (d ∷ ds) [] ts is = absurd (cc)
+dims_of_all-dealt (d ∷ ds) (vs ∷ arrays) ts is =
+    by_size (length vs == size_of d) (λ us rest. dims_of_all-dealt ds arrays us rest) (dealt ds arrays) refl is
+  where
+    by_size : (b : Bool) → ((us : List Contents) → dealt ds arrays ≡ Ok us → dims_of_all us ≡ ds)
+        → (r : Result (List Contents) Refusal) → dealt ds arrays ≡ r
+        → (if b then before (record { dims = d; values = vs }) r else Err OtherArrays) ≡ Ok ts → dims_of_all ts ≡ d ∷ ds
+    by_size false behind r rest is = absurd (cc)
+    by_size true behind (Err f) rest is = absurd (cc)
+    by_size true behind (Ok us) rest is =
+        let t : Contents = record { dims = d; values = vs } in
+        let same : t ∷ us ≡ ts = cc in
+        ap dims_of_all (sym same) ∙ ap (λ l. d ∷ l) (behind us rest)
+
 -- legal dims are within the bounds
 pub all_legal-within : (bounds : Bounds) (ts : List Contents) → all_legal bounds (dims_of_all ts) ≡ true → AreWithin bounds ts
 all_legal-within bounds [] legal n within = absurd (omega arith)
@@ -151,10 +169,6 @@ all_legal-within bounds (t ∷ ts) legal (suc n) within =
 pub length-dims_of_all : (ts : List Contents) → length (dims_of_all ts) ≡ length ts
 length-dims_of_all [] = refl
 length-dims_of_all (t ∷ ts) = ap suc (length-dims_of_all ts)
-
-pub length-values_of_all : (ts : List Contents) → length (values_of_all ts) ≡ length ts
-length-values_of_all [] = refl
-length-values_of_all (t ∷ ts) = ap suc (length-values_of_all ts)
 
 pub length-arrays_under : (arrays : List Array) → length (arrays_under arrays) ≡ length arrays
 length-arrays_under [] = refl
@@ -206,6 +220,17 @@ pub told-err : (rest : List ℕ) (r : Result (List Contents) Refusal) (f : Refus
 told-err rest (Err g) f is = let same : g ≡ f = cc in ap Err same
 told-err rest (Ok ts) f is = absurd (cc)
 
+-- tensors that were read are those that are dealt to their dims
+pub dealt-back : (bounds : Bounds) (arrays : List (List ℤ)) (ns : List ℕ) (d : Dealing) → all_from bounds arrays ns ≡ Ok d
+    → dealt (dims_of_all d.tensors) arrays ≡ Ok d.tensors
+dealt-back bounds arrays ns d is =
+    let all = all_from-back bounds arrays ns d is in
+    let ds = dims_of_all d.tensors in
+    let read : told d.rest (dealt ds arrays) ≡ Ok d =
+    sym (all_from-recorded bounds arrays ds d.rest (length-dims_of_all d.tensors ∙ all.many) all.legal)
+    ∙ ap (all_from bounds arrays) (sym all.numbers) ∙ is in
+    (told-ok d.rest (dealt ds arrays) d read).0
+
 -- a list was put behind others
 pub written-list : (new old list rest : List ℕ) → new ++ rest ≡ (old ++ list) ++ rest → new ++ rest ≡ old ++ (list ++ rest)
 written-list new old list rest is = rw append_assoc at is
@@ -230,6 +255,9 @@ same_elements b c first second same =
 
 same_bounds : (b c : Bounds) → b.rank ≡ c.rank → b.elements ≡ c.elements → b ≡ c
 same_bounds b c rank elements = λ i. record { rank = rank i; elements = elements i }
+
+pub same_prepared : (p q : Prepared) → p.bounds ≡ q.bounds → p.dims ≡ q.dims → p.bindings ≡ q.bindings → p.term ≡ q.term → p ≡ q
+same_prepared p q bounds dims bindings term = λ i. record { bounds = bounds i; dims = dims i; bindings = bindings i; term = term i }
 
 -- what the beginning of a record says
 pub record Begun (q : Prepared) (arrays : List (List ℤ)) (b : Bounds) (n m : ℕ) (rest : List ℕ) : Type 0 where
@@ -256,23 +284,29 @@ begun q ok arrays numbers rest b n m can here is =
           ∙ all_from-recorded q.bounds arrays q.dims (recorded_all (terms_of q) []) (sym count ∙ same) ok.legal;
     }
 
--- a record begins so
-pub Begins-record : (q : Prepared) → IsPrepared q → (numbers : List ℕ) → numbers ≡ record_of q → Begins numbers
-Begins-record q ok numbers is = record {
-  bounds = q.bounds;
-  inputs = length q.dims;
-  bindings = length q.bindings;
-  rest = recorded_dims q.dims (recorded_all (terms_of q) []);
-  recordable = ok.bounds;
-  few = ok.few;
-  here = is;
+-- numbers that begin so begin as a record
+pub begins : (numbers rest : List ℕ) (bounds : Bounds) (inputs bindings : ℕ) → IsRecordable bounds → inputs + bindings < 2 ^ 32
+    → numbers ≡ form_of bounds.elements ∷ bounds.rank ∷ inputs ∷ bindings ∷ rest → Begins numbers
+begins numbers rest bounds inputs bindings can few here = record {
+  bounds = bounds;
+  inputs = inputs;
+  bindings = bindings;
+  rest = rest;
+  recordable = can;
+  few = few;
+  here = here;
 }
 
+-- so does a record
+pub Begins-record : (q : Prepared) → IsPrepared q → (numbers : List ℕ) → numbers ≡ record_of q → Begins numbers
+Begins-record q ok numbers is =
+    begins numbers (recorded_dims q.dims (recorded_all (terms_of q) [])) q.bounds (length q.dims) (length q.bindings) ok.bounds ok.few is
+
 -- the numbers of a record, from what was read of them
-pub filled-written : (numbers rest behind : List ℕ) (b bounds : Bounds) (n m : ℕ) (ts us : List Contents) (bs all : List Term)
+pub found-written : (numbers rest behind : List ℕ) (b : Bounds) (n m : ℕ) (ts : List Contents) (bs all : List Term)
     → numbers ≡ form_of b.elements ∷ b.rank ∷ n ∷ m ∷ rest → rest ≡ recorded_dims (dims_of_all ts) behind → behind ≡ recorded_all all []
-    → n ≡ length ts → m ≡ length bs → bounds ≡ b → us ≡ ts
-    → numbers ≡ form_of bounds.elements ∷ bounds.rank ∷ length (dims_of_all us) ∷ length bs ∷ recorded_dims (dims_of_all us) (recorded_all all [])
-filled-written numbers rest behind b bounds n m ts us bs all here dims trees count many same inputs =
-    rw (inputs, same, length-dims_of_all ts, ← count, ← many)
+    → n ≡ length ts → m ≡ length bs
+    → numbers ≡ form_of b.elements ∷ b.rank ∷ length (dims_of_all ts) ∷ length bs ∷ recorded_dims (dims_of_all ts) (recorded_all all [])
+found-written numbers rest behind b n m ts bs all here dims trees count many =
+    rw (length-dims_of_all ts, ← count, ← many)
     (here ∙ ap (λ l. form_of b.elements ∷ b.rank ∷ n ∷ m ∷ l) (dims ∙ ap (recorded_dims (dims_of_all ts)) trees))

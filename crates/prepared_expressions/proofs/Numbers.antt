@@ -1,96 +1,14 @@
 -- What a head says, and only that.
-use Rattle.std.proofs.Common.{◌≡◌, ℕ, List, [], ◌∷◌, ◌++◌, length, Some, slice_get, refl, ap, sym, ◌∙◌, arith}
+use Rattle.std.proofs.Common.{◌≡◌, ℕ, List, [], ◌∷◌, ◌++◌, length, refl, arith}
 use Rattle.tensor_terms.specs.Term.{Term, input, unary, binary, ternary, select}
-use Rattle.tensor_ops.specs.LineOperation.TheVariants.{Cumsum, Cumprod, Argmax, Argmin}
-use Rattle.tensor_values.specs.declared.operations.UnaryScalar.TheVariants as one
-use Rattle.tensor_values.specs.declared.operations.BinaryScalar.TheVariants as two
-use Rattle.tensor_values.specs.declared.reducer.Reducer.TheVariants.{Sum, Prod, Max, Min, All, Any}
-use Rattle.prepared_expressions.specs.declared.kind.UnaryKind.TheVariants.{Each, Constant, Broadcast, Slice, Shuffle}
-use Rattle.prepared_expressions.specs.declared.kind.UnaryKind.TheVariants.{Reshape, Chip, Reverse, Stride, Pad, Reduce, Along}
-use Rattle.prepared_expressions.specs.declared.kind.BinaryKind.TheVariants.{Pairwise, Concat, Contract, Convolve, Take}
 use Rattle.prepared_expressions.specs.declared.kind.Kind.{Kind}
 use Rattle.prepared_expressions.specs.declared.kind.Kind.TheVariants.{Input, One, Two, Select}
 use Rattle.prepared_expressions.specs.Numbers.{number_of, headed}
 use Rattle.prepared_expressions.specs.Recorded.{recorded, unary_kind, binary_kind, unary_numbers, binary_numbers}
 
--- the kinds in the order of their numbers
-kinds : List Kind
-kinds =
-    Input
-    ∷ One (Each one.Neg) ∷ One (Each one.Abs) ∷ One (Each one.Square) ∷ One (Each one.Not)
-    ∷ Two (Pairwise two.Add) ∷ Two (Pairwise two.Sub) ∷ Two (Pairwise two.Mul)
-    ∷ Two (Pairwise two.CwiseMax) ∷ Two (Pairwise two.CwiseMin)
-    ∷ Two (Pairwise two.Lt) ∷ Two (Pairwise two.Le) ∷ Two (Pairwise two.Eq) ∷ Two (Pairwise two.Ne)
-    ∷ Two (Pairwise two.Gt) ∷ Two (Pairwise two.Ge) ∷ Two (Pairwise two.And) ∷ Two (Pairwise two.Or)
-    ∷ Select ∷ One Constant
-    ∷ One Broadcast ∷ One Slice ∷ One Shuffle ∷ One Reshape ∷ One Chip ∷ One Reverse ∷ One Stride
-    ∷ One Pad ∷ Two Concat
-    ∷ One (Reduce Sum) ∷ One (Reduce Prod) ∷ One (Reduce Max) ∷ One (Reduce Min)
-    ∷ One (Reduce All) ∷ One (Reduce Any)
-    ∷ Two Contract ∷ Two Convolve
-    ∷ Two (Pairwise two.FloorDivide) ∷ Two (Pairwise two.Remainder)
-    ∷ Two (Pairwise two.BitAnd) ∷ Two (Pairwise two.BitOr) ∷ Two (Pairwise two.BitXor)
-    ∷ One (Each one.BitNot) ∷ Two (Pairwise two.ShiftLeft) ∷ Two (Pairwise two.ShiftRight)
-    ∷ One (Along Cumsum) ∷ One (Along Cumprod) ∷ One (Along Argmax) ∷ One (Along Argmin)
-    ∷ Two Take ∷ []
-
-kinds-number_of : (k : Kind) → slice_get kinds (number_of k) ≡ Some k
-unfolding kinds
-kinds-number_of Input = refl
-kinds-number_of (One (Each one.Neg)) = refl
-kinds-number_of (One (Each one.Abs)) = refl
-kinds-number_of (One (Each one.Square)) = refl
-kinds-number_of (One (Each one.Not)) = refl
-kinds-number_of (One (Each one.BitNot)) = refl
-kinds-number_of (One Constant) = refl
-kinds-number_of (One Broadcast) = refl
-kinds-number_of (One Slice) = refl
-kinds-number_of (One Shuffle) = refl
-kinds-number_of (One Reshape) = refl
-kinds-number_of (One Chip) = refl
-kinds-number_of (One Reverse) = refl
-kinds-number_of (One Stride) = refl
-kinds-number_of (One Pad) = refl
-kinds-number_of (One (Reduce Sum)) = refl
-kinds-number_of (One (Reduce Prod)) = refl
-kinds-number_of (One (Reduce Max)) = refl
-kinds-number_of (One (Reduce Min)) = refl
-kinds-number_of (One (Reduce All)) = refl
-kinds-number_of (One (Reduce Any)) = refl
-kinds-number_of (One (Along Cumsum)) = refl
-kinds-number_of (One (Along Cumprod)) = refl
-kinds-number_of (One (Along Argmax)) = refl
-kinds-number_of (One (Along Argmin)) = refl
-kinds-number_of (Two (Pairwise two.Add)) = refl
-kinds-number_of (Two (Pairwise two.Sub)) = refl
-kinds-number_of (Two (Pairwise two.Mul)) = refl
-kinds-number_of (Two (Pairwise two.CwiseMax)) = refl
-kinds-number_of (Two (Pairwise two.CwiseMin)) = refl
-kinds-number_of (Two (Pairwise two.Lt)) = refl
-kinds-number_of (Two (Pairwise two.Le)) = refl
-kinds-number_of (Two (Pairwise two.Eq)) = refl
-kinds-number_of (Two (Pairwise two.Ne)) = refl
-kinds-number_of (Two (Pairwise two.Gt)) = refl
-kinds-number_of (Two (Pairwise two.Ge)) = refl
-kinds-number_of (Two (Pairwise two.And)) = refl
-kinds-number_of (Two (Pairwise two.Or)) = refl
-kinds-number_of (Two (Pairwise two.FloorDivide)) = refl
-kinds-number_of (Two (Pairwise two.Remainder)) = refl
-kinds-number_of (Two (Pairwise two.BitAnd)) = refl
-kinds-number_of (Two (Pairwise two.BitOr)) = refl
-kinds-number_of (Two (Pairwise two.BitXor)) = refl
-kinds-number_of (Two (Pairwise two.ShiftLeft)) = refl
-kinds-number_of (Two (Pairwise two.ShiftRight)) = refl
-kinds-number_of (Two Concat) = refl
-kinds-number_of (Two Contract) = refl
-kinds-number_of (Two Convolve) = refl
-kinds-number_of (Two Take) = refl
-kinds-number_of Select = refl
-
 -- two kinds have two numbers
 pub number_of_injective : (k l : Kind) → number_of k ≡ number_of l → k ≡ l
-number_of_injective k l same =
-    let e : Some k ≡ Some l = sym (kinds-number_of k) ∙ ap (slice_get kinds) same ∙ kinds-number_of l in cc
+number_of_injective k l same = grind (arith, same)
 
 -- lists of one length before others
 pub append_injective : (xs ys ss ts : List ℕ) → length xs ≡ length ys → xs ++ ss ≡ ys ++ ts → (xs ≡ ys) × (ss ≡ ts)

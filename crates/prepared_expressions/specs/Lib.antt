@@ -5,10 +5,9 @@ pub use Rattle.tensor_ops.specs.Result
 pub use Rattle.tensor_ops.specs.Term
 pub use Rattle.tensor_ops.specs.Tree
 pub use Rattle.tensor_ops.specs.Value
-pub mod Bindings
-pub mod Filled
 pub mod Numbers
 pub mod Part
 pub mod Prepared
+pub mod Ready
 pub mod Recorded
 pub mod private

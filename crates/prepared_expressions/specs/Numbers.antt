@@ -27,6 +27,7 @@ each_number one.Abs = 2
 each_number one.Square = 3
 each_number one.Not = 4
 each_number one.BitNot = 42
+each_number one.BitCount = 50
 
 -- the number of an operation on each two values at one place
 abbrev pub pairwise_number : BinaryScalar → ℕ

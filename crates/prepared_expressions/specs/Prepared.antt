@@ -6,10 +6,11 @@ use Rattle.std.specs.List.{All}
 use Rattle.tensor_shape.specs.Index.{size_of}
 use Rattle.tensor_shape.specs.Legal.{are_legal, text_elements, most_elements}
 use Rattle.tensor_shape.specs.declared.bounds.Bounds.{Bounds}
-use Rattle.tensor_terms.specs.Contents.{Contents, Given}
+use Rattle.tensor_terms.specs.Contents.{Contents}
 use Rattle.tensor_terms.specs.Term.{Term}
-use Rattle.tensor_terms.specs.Tree.{term_of}
-use Rattle.expr_reader.specs.Bindings.{have_inputs, terms_under}
+use Rattle.expr_reader.specs.Bindings.{have_inputs}
+use Rattle.expr_reader.specs.Outline.{outlined}
+use Rattle.expr_reader.specs.Request.{Asked}
 use Rattle.expr_reader.specs.declared.outline.Outline.{Outline}
 use Rattle.prepared_expressions.specs.Recorded.{recorded_all, height_of, HasRanges}
 use Rattle.prepared_expressions.specs.declared.refusal.Refusal.{Refusal}
@@ -85,23 +86,18 @@ abbrev pub dims_of_all : List Contents → List (List ℕ)
 dims_of_all [] = []
 dims_of_all (t ∷ ts) = t.dims ∷ dims_of_all ts
 
--- the values of each tensor
-abbrev pub values_of_all : List Contents → List (List ℤ)
-values_of_all [] = []
-values_of_all (t ∷ ts) = t.values ∷ values_of_all ts
-
--- what is prepared of a term over inputs and bindings
-abbrev pub prepared : Given → List Term → Term → Prepared
-prepared inputs bindings t = record {
-  bounds = inputs.bounds;
-  dims = dims_of_all inputs.tensors;
-  bindings = bindings;
-  term = t;
+-- what is prepared of the request of a header
+abbrev pub prepared_of : Asked → Prepared
+prepared_of a = record {
+  bounds = a.bounds;
+  dims = dims_of_all a.inputs;
+  bindings = a.bindings;
+  term = a.term;
 }
 
 -- what is prepared of an outline
 abbrev pub prepared_outline : Outline → Prepared
-prepared_outline o = prepared o.inputs (terms_under o.bindings.items) (term_of o.expr)
+prepared_outline o = prepared_of (outlined o)
 
 -- one more tensor before the others, if they have no refusal
 abbrev pub before : Contents → Result (List Contents) Refusal → Result (List Contents) Refusal

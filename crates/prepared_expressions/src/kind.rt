@@ -1,8 +1,8 @@
-//! The operations without their arguments, and the number of each in a record. A new operation
-//! needs the next number, here and in `specs/Numbers`; a changed number needs a new form in
-//! `prepared.rt`.
+//! The operations without their arguments, and the number of each in a record. A new operation is
+//! the last of `KINDS`, and has this number here and in `specs/Numbers`. A changed number needs a
+//! new form in `prepared.rt`.
 
-ghost use Rattle.std.specs.Prelude.{◌≡◌, ◌≢◌, ◌<◌, IfSome, IfNone};
+ghost use Rattle.std.specs.Prelude.{◌≡◌, ◌≢◌, IfSome, IfNone};
 ghost use Rattle.prepared_expressions.specs.declared.kind.Kind.{Kind};
 ghost use Rattle.prepared_expressions.specs.Numbers.{number_of};
 
@@ -45,6 +45,61 @@ pub(crate) enum Kind {
     Select,
 }
 
+/// The kinds in the order of their numbers.
+const KINDS: &[Kind] = &[
+    Kind::Input,
+    Kind::One(UnaryKind::Each(UnaryScalar::Neg)),
+    Kind::One(UnaryKind::Each(UnaryScalar::Abs)),
+    Kind::One(UnaryKind::Each(UnaryScalar::Square)),
+    Kind::One(UnaryKind::Each(UnaryScalar::Not)),
+    Kind::Two(BinaryKind::Pairwise(BinaryScalar::Add)),
+    Kind::Two(BinaryKind::Pairwise(BinaryScalar::Sub)),
+    Kind::Two(BinaryKind::Pairwise(BinaryScalar::Mul)),
+    Kind::Two(BinaryKind::Pairwise(BinaryScalar::CwiseMax)),
+    Kind::Two(BinaryKind::Pairwise(BinaryScalar::CwiseMin)),
+    Kind::Two(BinaryKind::Pairwise(BinaryScalar::Lt)),
+    Kind::Two(BinaryKind::Pairwise(BinaryScalar::Le)),
+    Kind::Two(BinaryKind::Pairwise(BinaryScalar::Eq)),
+    Kind::Two(BinaryKind::Pairwise(BinaryScalar::Ne)),
+    Kind::Two(BinaryKind::Pairwise(BinaryScalar::Gt)),
+    Kind::Two(BinaryKind::Pairwise(BinaryScalar::Ge)),
+    Kind::Two(BinaryKind::Pairwise(BinaryScalar::And)),
+    Kind::Two(BinaryKind::Pairwise(BinaryScalar::Or)),
+    Kind::Select,
+    Kind::One(UnaryKind::Constant),
+    Kind::One(UnaryKind::Broadcast),
+    Kind::One(UnaryKind::Slice),
+    Kind::One(UnaryKind::Shuffle),
+    Kind::One(UnaryKind::Reshape),
+    Kind::One(UnaryKind::Chip),
+    Kind::One(UnaryKind::Reverse),
+    Kind::One(UnaryKind::Stride),
+    Kind::One(UnaryKind::Pad),
+    Kind::Two(BinaryKind::Concat),
+    Kind::One(UnaryKind::Reduce(Reducer::Sum)),
+    Kind::One(UnaryKind::Reduce(Reducer::Prod)),
+    Kind::One(UnaryKind::Reduce(Reducer::Max)),
+    Kind::One(UnaryKind::Reduce(Reducer::Min)),
+    Kind::One(UnaryKind::Reduce(Reducer::All)),
+    Kind::One(UnaryKind::Reduce(Reducer::Any)),
+    Kind::Two(BinaryKind::Contract),
+    Kind::Two(BinaryKind::Convolve),
+    Kind::Two(BinaryKind::Pairwise(BinaryScalar::FloorDivide)),
+    Kind::Two(BinaryKind::Pairwise(BinaryScalar::Remainder)),
+    Kind::Two(BinaryKind::Pairwise(BinaryScalar::BitAnd)),
+    Kind::Two(BinaryKind::Pairwise(BinaryScalar::BitOr)),
+    Kind::Two(BinaryKind::Pairwise(BinaryScalar::BitXor)),
+    Kind::One(UnaryKind::Each(UnaryScalar::BitNot)),
+    Kind::Two(BinaryKind::Pairwise(BinaryScalar::ShiftLeft)),
+    Kind::Two(BinaryKind::Pairwise(BinaryScalar::ShiftRight)),
+    Kind::One(UnaryKind::Along(LineOperation::Cumsum)),
+    Kind::One(UnaryKind::Along(LineOperation::Cumprod)),
+    Kind::One(UnaryKind::Along(LineOperation::Argmax)),
+    Kind::One(UnaryKind::Along(LineOperation::Argmin)),
+    Kind::Two(BinaryKind::Take),
+    Kind::One(UnaryKind::Each(UnaryScalar::BitCount)),
+];
+
 impl Kind {
     /// Returns the number of this kind in a record.
     pub(crate) fn number(self) -> u64
@@ -63,74 +118,12 @@ impl Kind {
         ensures known { IfSome result (λ kind. number_of kind ≡ number) }
         ensures unknown { IfNone result ((kind : Kind) → number_of kind ≢ number) }
     {
-        if number > 28 {
-            return Kind::later(number);
+        let index = number as usize;
+        if index < KINDS.len() {
+            Some(KINDS[index])
+        } else {
+            None
         }
-        Some(match number {
-            0 => Kind::Input,
-            1 => Kind::One(UnaryKind::Each(UnaryScalar::Neg)),
-            2 => Kind::One(UnaryKind::Each(UnaryScalar::Abs)),
-            3 => Kind::One(UnaryKind::Each(UnaryScalar::Square)),
-            4 => Kind::One(UnaryKind::Each(UnaryScalar::Not)),
-            5 => Kind::Two(BinaryKind::Pairwise(BinaryScalar::Add)),
-            6 => Kind::Two(BinaryKind::Pairwise(BinaryScalar::Sub)),
-            7 => Kind::Two(BinaryKind::Pairwise(BinaryScalar::Mul)),
-            8 => Kind::Two(BinaryKind::Pairwise(BinaryScalar::CwiseMax)),
-            9 => Kind::Two(BinaryKind::Pairwise(BinaryScalar::CwiseMin)),
-            10 => Kind::Two(BinaryKind::Pairwise(BinaryScalar::Lt)),
-            11 => Kind::Two(BinaryKind::Pairwise(BinaryScalar::Le)),
-            12 => Kind::Two(BinaryKind::Pairwise(BinaryScalar::Eq)),
-            13 => Kind::Two(BinaryKind::Pairwise(BinaryScalar::Ne)),
-            14 => Kind::Two(BinaryKind::Pairwise(BinaryScalar::Gt)),
-            15 => Kind::Two(BinaryKind::Pairwise(BinaryScalar::Ge)),
-            16 => Kind::Two(BinaryKind::Pairwise(BinaryScalar::And)),
-            17 => Kind::Two(BinaryKind::Pairwise(BinaryScalar::Or)),
-            18 => Kind::Select,
-            19 => Kind::One(UnaryKind::Constant),
-            20 => Kind::One(UnaryKind::Broadcast),
-            21 => Kind::One(UnaryKind::Slice),
-            22 => Kind::One(UnaryKind::Shuffle),
-            23 => Kind::One(UnaryKind::Reshape),
-            24 => Kind::One(UnaryKind::Chip),
-            25 => Kind::One(UnaryKind::Reverse),
-            26 => Kind::One(UnaryKind::Stride),
-            27 => Kind::One(UnaryKind::Pad),
-            28 => Kind::Two(BinaryKind::Concat),
-            _ => return None,
-        })
-    }
-
-    /// Returns the kind with a number above 28: a reduction, a contraction or convolution, or an
-    /// operation of version 3.
-    fn later(number: u64) -> Option<Kind>
-        requires { 28 < number }
-        ensures known { IfSome result (λ kind. number_of kind ≡ number) }
-        ensures unknown { IfNone result ((kind : Kind) → number_of kind ≢ number) }
-    {
-        Some(match number {
-            29 => Kind::One(UnaryKind::Reduce(Reducer::Sum)),
-            30 => Kind::One(UnaryKind::Reduce(Reducer::Prod)),
-            31 => Kind::One(UnaryKind::Reduce(Reducer::Max)),
-            32 => Kind::One(UnaryKind::Reduce(Reducer::Min)),
-            33 => Kind::One(UnaryKind::Reduce(Reducer::All)),
-            34 => Kind::One(UnaryKind::Reduce(Reducer::Any)),
-            35 => Kind::Two(BinaryKind::Contract),
-            36 => Kind::Two(BinaryKind::Convolve),
-            37 => Kind::Two(BinaryKind::Pairwise(BinaryScalar::FloorDivide)),
-            38 => Kind::Two(BinaryKind::Pairwise(BinaryScalar::Remainder)),
-            39 => Kind::Two(BinaryKind::Pairwise(BinaryScalar::BitAnd)),
-            40 => Kind::Two(BinaryKind::Pairwise(BinaryScalar::BitOr)),
-            41 => Kind::Two(BinaryKind::Pairwise(BinaryScalar::BitXor)),
-            42 => Kind::One(UnaryKind::Each(UnaryScalar::BitNot)),
-            43 => Kind::Two(BinaryKind::Pairwise(BinaryScalar::ShiftLeft)),
-            44 => Kind::Two(BinaryKind::Pairwise(BinaryScalar::ShiftRight)),
-            45 => Kind::One(UnaryKind::Along(LineOperation::Cumsum)),
-            46 => Kind::One(UnaryKind::Along(LineOperation::Cumprod)),
-            47 => Kind::One(UnaryKind::Along(LineOperation::Argmax)),
-            48 => Kind::One(UnaryKind::Along(LineOperation::Argmin)),
-            49 => Kind::Two(BinaryKind::Take),
-            _ => return None,
-        })
     }
 }
 
@@ -147,6 +140,7 @@ impl UnaryKind {
             UnaryKind::Each(UnaryScalar::Square) => 3,
             UnaryKind::Each(UnaryScalar::Not) => 4,
             UnaryKind::Each(UnaryScalar::BitNot) => 42,
+            UnaryKind::Each(UnaryScalar::BitCount) => 50,
             UnaryKind::Constant => 19,
             UnaryKind::Broadcast => 20,
             UnaryKind::Slice => 21,

@@ -2,23 +2,25 @@
 //! its form; another layout of records takes a new form, so that a record of an old build is
 //! refused.
 
-ghost use Rattle.std.specs.Prelude.{◌≡◌, ◌≢◌, ◌⊎◌, ◌<◌, ◌+◌, ◌^◌, ◌++◌, ◌∷◌, ℕ, List};
+ghost use Rattle.std.specs.Prelude.{◌≡◌, ◌≢◌, ◌⊎◌, ◌<◌, ◌+◌, ◌^◌, ◌++◌, ◌∷◌, ℕ, List, length};
 ghost use Rattle.std.specs.Prelude.{IsTrue, IfOk, IfErr, IsErrOf, OnOk, IfSome, IfNone};
 ghost use Rattle.expr_reader.specs.Arrays.{arrays_under};
 ghost use Rattle.tensor_shape.specs.Legal.{text_elements, most_elements, IsPossible};
-ghost use Rattle.prepared_expressions.specs.Filled.{IsFilled, IsFilledOf};
 ghost use Rattle.prepared_expressions.specs.Prepared.{prepared_outline, record_of, recorded_dims};
 ghost use Rattle.prepared_expressions.specs.Prepared.{dims_of_all, all_legal, form_of};
 ghost use Rattle.prepared_expressions.specs.Prepared.{Begins, IsPrepared, IsRecordable};
+ghost use Rattle.prepared_expressions.specs.Ready.{IsFound, IsRefusalOf};
+ghost use Rattle.prepared_expressions.specs.private.ToldAll.{IsRecordedOver, IsRefusalFor};
 
-use crate::exprs::read_exprs;
-use crate::filled::Filled;
+use crate::arguments::alone;
 use crate::inputs::read_tensors;
+use crate::ready::Ready;
 use crate::refusal::Refusal;
-use crate::tree::MAX_HEIGHT;
+use crate::tree::{MAX_HEIGHT, read_tree};
 use crate::written::{write_bindings, write_list, write_tree};
 use expr_reader::{Array, KnownInputs, Outline};
 use std::alloc::Global;
+use tensor_ops::eval_plain;
 use tensor_shape::{Bounds, Dims, MAX_ELEMENTS, TEXT_ELEMENTS};
 use tensor_terms::Inputs;
 
@@ -78,18 +80,18 @@ fn write_dims(
 }
 
 /// Reads a record over arrays, one for each input, with as many values as the input's dims have
-/// places.
+/// places. Evaluates each binding once, over the inputs and the bindings before it.
 ///
 /// # Errors
 ///
-/// [`Refusal::NoRecord`], [`Refusal::OtherArrays`] or [`Refusal::NoMemory`].
+/// [`Refusal::NoRecord`], [`Refusal::OtherArrays`], [`Refusal::NoDims`] or [`Refusal::NoMemory`].
 pub fn read_over<'a>(
     alloc: Global,
     numbers: &[u64],
     arrays: &[Array<'a>],
-) -> Result<Filled<'a>, Refusal>
-    ensures found { IfOk result (λ filled. IsFilled numbers.now (arrays_under arrays.now) filled) }
-    ensures whole { IsFilledOf numbers.now (arrays_under arrays.now) result }
+) -> Result<Ready<'a>, Refusal>
+    ensures found { IfOk result (IsFound numbers.now (arrays_under arrays.now)) }
+    ensures refused { IfErr result (IsRefusalOf numbers.now (arrays_under arrays.now)) }
     ensures no_start { (Begins numbers.now → ⊥) → IsErrOf result Refusal.NoRecord }
 {
     let Some(start) = read_start(numbers) else {
@@ -100,12 +102,45 @@ pub fn read_over<'a>(
         return Err(Refusal::OtherArrays);
     }
     let dealt = read_tensors(alloc, start.bounds, start.rest, arrays)?;
-    let read = read_exprs(alloc, dealt.rest, start.inputs, start.bindings)?;
     let inputs = Inputs::with_bounds(dealt.tensors, start.bounds);
-    Ok(Filled {
-        inputs,
-        bindings: read.bindings,
-        expr: read.expr,
+    let ready = read_bound(alloc, dealt.rest, inputs, start.bindings)?;
+    Ok(ready)
+}
+
+/// Reads bindings, as many as `count`, and the expression after them. Evaluates each binding over
+/// the tensors before it. `NoRecord` if numbers are left.
+fn read_bound<'a>(
+    alloc: Global,
+    numbers: &[u64],
+    inputs: Inputs<'a>,
+    count: u32,
+) -> Result<Ready<'a>, Refusal>
+    requires { length inputs.tensors + count < 2 ^ 32 }
+    ensures found { IfOk result (IsRecordedOver numbers.now count inputs.entry.tensors) }
+    ensures refused { IfErr result (IsRefusalFor numbers.now count inputs.entry) }
+{
+    // Called for its clause: dims can go as far as the inputs' bounds.
+    let _limit = inputs.bounds();
+    let mut tensors = inputs.widened();
+    let mut rest = numbers;
+    for _before in 0..count {
+        let read = read_tree(alloc, rest, tensors.len(), MAX_HEIGHT)?;
+        let Ok(_) = read.expr.dims(&tensors) else {
+            return Err(Refusal::NoDims);
+        };
+        let tensor = eval_plain(alloc, &read.expr, &tensors)?;
+        tensors.push(tensor)?;
+        rest = read.rest;
+    }
+    let last = read_tree(alloc, rest, tensors.len(), MAX_HEIGHT)?;
+    let expr = alone(last.expr, last.rest)?;
+    let Ok(dims) = expr.dims(&tensors) else {
+        return Err(Refusal::NoDims);
+    };
+    Ok(Ready {
+        tensors,
+        expr,
+        dims,
     })
 }
 

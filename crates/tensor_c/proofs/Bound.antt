@@ -13,7 +13,7 @@ use Rattle.expr_reader.specs.Sequence.{worked_out}
 use Rattle.expr_reader.specs.Term.{Term, has_inputs, nodes_of}
 use Rattle.expr_reader.specs.Value.{tensor_of}
 use Rattle.expr_reader.specs.declared.binding.Binding.{Binding}
-use Rattle.prepared_expressions.specs.Bindings.{HaveDims}
+use Rattle.prepared_expressions.specs.Ready.{HaveDims}
 use Rattle.tensor_c.specs.Shared.{size_in, shared, shared_whole}
 
 -- the nodes of a binding and of those before it are among all nodes

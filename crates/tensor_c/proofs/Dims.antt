@@ -16,7 +16,7 @@ use Rattle.expr_reader.specs.Term.{Term}
 use Rattle.expr_reader.specs.Value.{tensor_of}
 use Rattle.expr_reader.specs.declared.fault.Fault.{Fault}
 use Rattle.expr_reader.proofs.SameDims.{AskAlike-frame}
-use Rattle.prepared_expressions.specs.Bindings.{HaveDims}
+use Rattle.prepared_expressions.specs.Ready.{HaveDims}
 use Rattle.tensor_c.specs.Answer.{or_fault, answer_dims}
 
 -- dims within bounds are the dims of the term's tensor

@@ -32,10 +32,10 @@ use Rattle.expr_reader.specs.declared.fault.Fault.{Fault}
 use Rattle.expr_reader.specs.declared.fault.Fault.TheVariants.{BadField, BadVersion, BadWorkers, BadBlock, BadTensor, TooLong}
 use Rattle.expr_reader.proofs.Chain.{tree_asked, inputs_asked, block_asked, workers_asked}
 use Rattle.expr_reader.proofs.SameDims.{AskAlike-frame}
-use Rattle.prepared_expressions.specs.Prepared.{dims_of_all, before, dealt}
+use Rattle.prepared_expressions.specs.Prepared.{prepared_of, dims_of_all, before, dealt}
 use Rattle.prepared_expressions.specs.declared.refusal.Refusal.{Refusal}
 use Rattle.tensor_c.specs.Answer.{or_fault, answer_of_arrays}
-use Rattle.tensor_c.specs.Plan.{prepared_of, tensor_over, answer_of_plan}
+use Rattle.tensor_c.specs.Plan.{tensor_over, answer_of_plan}
 
 module _ (bounds : Bounds) where
   -- the dims that stand at a member

@@ -8,26 +8,7 @@ use Rattle.prepared_expressions.specs.Prepared.{dims_of_all, before, dealt}
 use Rattle.prepared_expressions.specs.declared.refusal.Refusal.{Refusal}
 use Rattle.prepared_expressions.specs.declared.refusal.Refusal.TheVariants.{OtherArrays}
 
--- they have the dims of the inputs
-pub dims_of_all-dealt : (ds : List (List ℕ)) (arrays : List (List ℤ)) (ts : List Contents) → dealt ds arrays ≡ Ok ts → dims_of_all ts ≡ ds
-dims_of_all-dealt [] [] [] is = refl
-dims_of_all-dealt [] [] (t ∷ ts) is = absurd (cc)
-dims_of_all-dealt [] (vs ∷ arrays) ts is = absurd (cc)
-dims_of_all-dealt (d ∷ ds) [] ts is = absurd (cc)
-dims_of_all-dealt (d ∷ ds) (vs ∷ arrays) ts is =
-    by_size (length vs == size_of d) (λ us rest. dims_of_all-dealt ds arrays us rest) (dealt ds arrays) refl is
-  where
-    by_size : (b : Bool) → ((us : List Contents) → dealt ds arrays ≡ Ok us → dims_of_all us ≡ ds)
-        → (r : Result (List Contents) Refusal) → dealt ds arrays ≡ r
-        → (if b then before (record { dims = d; values = vs }) r else Err OtherArrays) ≡ Ok ts → dims_of_all ts ≡ d ∷ ds
-    by_size false behind r rest is = absurd (cc)
-    by_size true behind (Err f) rest is = absurd (cc)
-    by_size true behind (Ok us) rest is =
-        let t : Contents = record { dims = d; values = vs } in
-        let same : t ∷ us ≡ ts = cc in
-        ap dims_of_all (sym same) ∙ ap (λ l. d ∷ l) (behind us rest)
-
--- or they are others
+-- arrays that are not dealt are others
 pub dealt-err : (ds : List (List ℕ)) (arrays : List (List ℤ)) (f : Refusal) → dealt ds arrays ≡ Err f → f ≡ OtherArrays
 dealt-err [] [] f is = absurd (cc)
 dealt-err [] (vs ∷ arrays) f is = cc

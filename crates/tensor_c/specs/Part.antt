@@ -9,12 +9,6 @@ use Rattle.tensor_c.specs.Call.{begun, fault_result}
 abbrev pub part_of : List ℤ → ℕ → ℕ → List ℤ
 part_of values first room = take room (drop first values)
 
--- the values from place `first` on are the first `count` elements of the list; the others stay
-abbrev pub IsPartIn : List ℤ → ℕ → List ℤ → ℕ → List ℤ → Type 0
-IsPartIn values first old count new =
-    (count ≡ length (part_of values first (length old)))
-    × (new ≡ begun (part_of values first (length old)) old)
-
 -- the result of a call for a part, and the list after it
 pub record CalledForPart : Type 0 where
   pub result : ℤ

@@ -8,23 +8,14 @@ use Rattle.expr_reader.specs.Sequence.{worked_out}
 use Rattle.expr_reader.specs.Value.{tensor_of}
 use Rattle.expr_reader.specs.declared.fault.Fault.{Fault}
 use Rattle.expr_reader.specs.declared.fault.Fault.TheVariants.{BadTensor, NoMemory}
-use Rattle.prepared_expressions.specs.Bindings.{HaveDims}
 use Rattle.prepared_expressions.specs.Prepared.{Prepared, IsPrepared, terms_of, record_of}
-use Rattle.prepared_expressions.specs.Prepared.{dims_of_all, dealt}
+use Rattle.prepared_expressions.specs.Prepared.{prepared_of, dealt}
+use Rattle.prepared_expressions.specs.Ready.{HaveDims}
 use Rattle.prepared_expressions.specs.declared.refusal.Refusal.{Refusal}
 use Rattle.prepared_expressions.specs.declared.refusal.Refusal.TheVariants as refusal
 use Rattle.tensor_c.specs.Answer.{or_fault}
 use Rattle.tensor_c.specs.Call.{begun, fault_result, no_room}
 use Rattle.tensor_c.specs.Part.{CalledForPart}
-
--- what is prepared of the request of a header
-abbrev pub prepared_of : Asked → Prepared
-prepared_of a = record {
-  bounds = a.bounds;
-  dims = dims_of_all a.inputs;
-  bindings = a.bindings;
-  term = a.term;
-}
 
 -- the request of a header with `count` values, all zero
 abbrev pub asked_over : List ℕ → ℕ → Result Asked Fault

@@ -7,4 +7,4 @@ packed first second third = 1000000 * first + 1000 * second + third
 
 -- the version that the file VERSION has
 abbrev pub version : ℕ
-version = packed 4 0 0
+version = packed 4 1 0

@@ -7,9 +7,10 @@ ghost use Rattle.expr_reader.specs.Contents.{Contents};
 ghost use Rattle.expr_reader.specs.Frame.{request_of_frame, values_limit};
 ghost use Rattle.expr_reader.specs.Request.{Asked};
 ghost use Rattle.expr_reader.specs.declared.fault.Fault.{Fault};
+ghost use Rattle.prepared_expressions.specs.Prepared.{prepared_of};
 ghost use Rattle.tensor_c.specs.Answer.{answer_of_arrays};
 ghost use Rattle.tensor_c.specs.Part.{part_of, called_for_part};
-ghost use Rattle.tensor_c.specs.Plan.{prepared_of, answer_of_plan};
+ghost use Rattle.tensor_c.specs.Plan.{answer_of_plan};
 
 /// A part and the part after it, joined, are one part. A part from place 0 with enough room is all
 /// values.

@@ -3,10 +3,7 @@
 //! changes that file, `examples/`, `python/` and the tests of the library.
 #![tactic(auto)]
 
-mod arrays;
-mod asked;
 mod evaluation;
-mod explaining;
 mod faults;
 mod laws;
 mod part;
@@ -20,7 +17,7 @@ ghost use Rattle.expr_reader.specs.Faults.{fault_number, fault_name};
 ghost use Rattle.expr_reader.specs.Frame.{frame_at};
 ghost use Rattle.expr_reader.specs.Request.{Asked};
 ghost use Rattle.expr_reader.specs.declared.fault.Fault.{Fault};
-ghost use Rattle.prepared_expressions.specs.Prepared.{Begins, Prepared, record_of};
+ghost use Rattle.prepared_expressions.specs.Prepared.{Begins, Prepared, prepared_of, record_of};
 ghost use Rattle.prepared_expressions.specs.declared.refusal.Refusal.{Refusal};
 ghost use Rattle.tensor_c.specs.Answer.{answer_of_arrays, answer_of_frame};
 ghost use Rattle.tensor_c.specs.Answer.{answer_dims, dims_of_arrays};
@@ -28,21 +25,21 @@ ghost use Rattle.tensor_c.specs.Call.{IsCall, IsDimsCall, IsTooLong};
 ghost use Rattle.tensor_c.specs.Call.{called, called_for_dims, called_for_name};
 ghost use Rattle.tensor_c.specs.Explaining.{IsExplainCall};
 ghost use Rattle.tensor_c.specs.Part.{IsPartCall, called_for_part};
-ghost use Rattle.tensor_c.specs.Plan.{asked_over, plan_over, prepared_of, called_for_plan};
+ghost use Rattle.tensor_c.specs.Plan.{asked_over, plan_over, called_for_plan};
 ghost use Rattle.tensor_c.specs.Plan.{IsPlan, IsPlanCall, answer_of_plan, refused, IsRefused};
 ghost use Rattle.tensor_c.specs.Shared.{shared_over, called_for_count, IsCountCall};
 ghost use Rattle.tensor_c.specs.Version.{version};
 
-use crate::arrays::{dims_over, put_part_over};
-use crate::evaluation::{dims_of, put_answer};
-use crate::explaining::put_explanation;
-use crate::faults::fault_of;
-use crate::part::put_part;
-use crate::plan::{put_plan, put_planned};
+use crate::evaluation::{dims_of, dims_over, put_asked};
+use crate::faults::{fault_of, result_of, result_of_refusal};
+use crate::part::{put_part, put_ready};
+use crate::plan::{plan_of, put_found_plan};
 use crate::room::{put_found, put_text};
-use crate::shared::shared_by_parts;
-use expr_reader::Array;
+use crate::shared::shared_of;
+use expr_reader::{Array, Fault, read_arrays, read_frame};
+use fault_reasons::explain_frame;
 pub use laws::{calls_for_parts_are_one, parts_make_the_whole, plans_answer_for_headers};
+use prepared_expressions::read_over;
 use std::alloc::Global;
 
 /// Evaluates a frame. Writes the values of the answer to `out`, and its rank and then its dims to
@@ -64,7 +61,10 @@ pub extern "C" fn tensor_evaluate(
         → record { result = result; out = out.new; dims = dims.new }
         ≡ called (Err Fault.TooLong) out.old dims.old }
 {
-    put_answer(alloc, header, values, out, dims)
+    match read_frame(alloc, header, values) {
+        Ok(request) => put_asked(alloc, request, out, dims),
+        Err(fault) => result_of(fault),
+    }
 }
 
 /// Writes values of the answer of a frame to `out`, the value at place `first` first: as many as
@@ -87,7 +87,10 @@ pub extern "C" fn tensor_evaluate_part(
         → record { result = result; out = out.new }
         ≡ called_for_part (Err Fault.TooLong) first out.old }
 {
-    put_part(alloc, header, values, first, out)
+    match read_frame(alloc, header, values) {
+        Ok(request) => put_part(alloc, request, first, out),
+        Err(fault) => result_of(fault),
+    }
 }
 
 /// Writes values of an answer as [`tensor_evaluate_part`] does, of a header with an array of values
@@ -106,7 +109,10 @@ pub extern "C" fn tensor_evaluate_arrays(
         → record { result = result; out = out.new }
         ≡ called_for_part (Err Fault.TooLong) first out.old }
 {
-    put_part_over(alloc, header, arrays, first, out)
+    match read_arrays(alloc, header, arrays) {
+        Ok(asked) => put_part(alloc, asked, first, out),
+        Err(fault) => result_of(fault),
+    }
 }
 
 /// Writes the rank and then the dims of the answer of a frame with `count` values, and returns how
@@ -159,7 +165,7 @@ pub extern "C" fn tensor_prepare(alloc: Global, header: &[u8], count: u64, plan:
     ensures too_long { IsTooLong header.now count → record { result = result; plan = plan.new }
         ≡ called_for_plan (Err Fault.TooLong) plan.old }
 {
-    put_plan(alloc, header, count, plan)
+    put_found_plan(plan_of(alloc, header, count), plan)
 }
 
 /// Writes values of an answer as [`tensor_evaluate_arrays`] does, from a plan in place of a header.
@@ -185,7 +191,10 @@ pub extern "C" fn tensor_run(
         → record { result = result; out = out.new } ≡ refused Refusal.NoRecord out.old }
     ensures len { length out.new ≡ length out.old }
 {
-    put_planned(alloc, plan, arrays, first, out)
+    match read_over(alloc, plan, arrays) {
+        Ok(ready) => put_ready(alloc, &ready, first, out),
+        Err(refusal) => result_of_refusal(refusal),
+    }
 }
 
 /// Returns how many values each call for a part of an answer computes before its own: values below
@@ -199,7 +208,10 @@ pub extern "C" fn tensor_shared(alloc: Global, header: &[u8], arrays: &[Array<'_
     ensures too_long { IsTooLong header.now (length (joined (arrays_under arrays.now)))
         → result ≡ called_for_count (Err Fault.TooLong) }
 {
-    shared_by_parts(alloc, header, arrays)
+    match read_arrays(alloc, header, arrays) {
+        Ok(request) => shared_of(&request) as i64,
+        Err(fault) => result_of(fault),
+    }
 }
 
 /// Writes the explanation of a frame with `count` values, and a 0 byte after it: the first fault,
@@ -212,7 +224,11 @@ pub extern "C" fn tensor_explain(alloc: Global, header: &[u8], count: u64, text:
     ensures { IsExplainCall (frame_at header.now (replicate count (pos 0))) text.old
         (record { result = result; name = text.new }) }
 {
-    put_explanation(alloc, header, count, text)
+    let told = explain_frame(alloc, header, count);
+    if told.fault == Some(Fault::NoMemory) {
+        return result_of(Fault::NoMemory);
+    }
+    put_text(told.lines.as_slice(), text)
 }
 
 /// Writes the name of the fault with this number, and a 0 byte after it. Returns how many bytes the
@@ -240,5 +256,5 @@ pub extern "C" fn tensor_fault_name(number: u32, name: &mut [u8]) -> i64
 pub extern "C" fn tensor_version() -> i64
     ensures { result ≡ pos version }
 {
-    4_000_000
+    4_001_000
 }

@@ -4,7 +4,6 @@
 
 ghost use Rattle.std.specs.Prelude.{◌≡◌, ◌<◌, ◌≤◌, ◌+◌, ◌*◌, ◌^◌, length, map, IsTrue, Err, Ok};
 ghost use Rattle.std.specs.Prelude.{IfOk, MatchResult};
-ghost use Rattle.expr_reader.specs.Arrays.{arrays_under, joined};
 ghost use Rattle.expr_reader.specs.Asked.{asked_under};
 ghost use Rattle.expr_reader.specs.Bindings.{terms_under, nodes_in};
 ghost use Rattle.expr_reader.specs.Contents.{input_of};
@@ -14,15 +13,11 @@ ghost use Rattle.expr_reader.specs.Request.{tensors_of};
 ghost use Rattle.expr_reader.specs.Result.{dims_of, operand_dims};
 ghost use Rattle.expr_reader.specs.Term.{has_inputs, nodes_of};
 ghost use Rattle.expr_reader.specs.Tree.{term_of, unary_at, binary_at};
-ghost use Rattle.tensor_c.specs.Call.{IsTooLong};
-ghost use Rattle.tensor_c.specs.Shared.{shared, shared_whole, asked_shared, shared_over};
-ghost use Rattle.tensor_c.specs.Shared.{called_for_count, IsCountCall};
+ghost use Rattle.tensor_c.specs.Shared.{shared, shared_whole, asked_shared};
 ghost use Rattle.tensor_c.specs.Shared.{is_listed, is_moved_list};
 ghost use Rattle.tensor_c.specs.Shared.{combined_size, whole_size, operand_size, either_size};
 
-use crate::faults::result_of;
-use expr_reader::{Array, Fault, Request, read_arrays};
-use std::alloc::Global;
+use expr_reader::Request;
 use tensor_ops::{Binary, Dims, Expr, ExprFault, Node, Unary, WIDEST};
 
 /// The dims of an expression, and how many values are computed below its last operation.
@@ -32,22 +27,9 @@ struct Found {
     shared: u64,
 }
 
-/// Returns how many values each part of the answer of a header and arrays computes before its own,
-/// or the result for a fault. Nothing is evaluated.
-pub(crate) fn shared_by_parts(alloc: Global, header: &[u8], arrays: &[Array<'_>]) -> i64
-    ensures call { IsCountCall (shared_over header.now (arrays_under arrays.now)) result }
-    ensures too_long { IsTooLong header.now (length (joined (arrays_under arrays.now)))
-        → result ≡ called_for_count (Err Fault.TooLong) }
-{
-    match read_arrays(alloc, header, arrays) {
-        Ok(request) => shared_of(&request) as i64,
-        Err(fault) => result_of(fault),
-    }
-}
-
 /// Returns how many values each part of a request's answer computes before its own: all values of
 /// the bindings, and the values below the last operation of the expression.
-fn shared_of(request: &Request<'_>) -> u64
+pub(crate) fn shared_of(request: &Request<'_>) -> u64
     ensures value { result ≡ asked_shared (asked_under request.now) }
     ensures small { result < 2 ^ 63 }
 {

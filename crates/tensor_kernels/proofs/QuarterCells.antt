@@ -6,7 +6,6 @@ use Rattle.std.proofs.lemmas.Nat.{div-mul-add, mod-mul-add}
 use Rattle.tensor_values.specs.Values.{value_in}
 use Rattle.tensor_kernels.specs.Chunks.{chunk, chunk_start}
 use Rattle.tensor_kernels.specs.Panels.{AreCells, cell_of}
-use Rattle.tensor_dots.specs.Inside.{AreInside}
 use Rattle.tensor_kernels.proofs.ChunkSums.{length-chunk, slice_index-chunk}
 use Rattle.tensor_kernels.proofs.PanelPlaces.{are_cells-row}
 
@@ -20,15 +19,6 @@ length-whole offsets c within =
     let first = chunk_start-whole (length offsets) c (omega arith) in
     let last = chunk_start-whole (length offsets) (c + 1) within in
     omega (arith, first, last, length-chunk offsets c)
-
--- rows that are padded by the last one lead to values where all do
-pub are_inside-padded : (values : List ℤ) (rows starts offsets : List ℕ) → 0 < length rows
-    → ((x : ℕ) → x < length starts
-    → slice_index starts x ≡ slice_index rows (min x (length rows - 1)))
-    → AreInside values rows offsets → AreInside values starts offsets
-are_inside-padded values rows starts offsets some are inside x q row few =
-    let there : min x (length rows - 1) < length rows = omega arith in
-    rw (are x row) (inside (min x (length rows - 1)) q there few)
 
 -- a whole number of panels
 pub div_ceil-whole : (panels h : ℕ) → 0 < h → div_ceil (panels * h) h ≡ panels

@@ -95,11 +95,6 @@ values-agree count at ds f values js is_index =
     values.each (place ds js) (place-below-size_of ds js is_index)
     ∙ ap f (index_of-place ds js is_index)
 
--- a lowered expression has its own values
-pub values-lowered : (lowered : Lowered) (ds : List ℕ) (f : List ℕ → ℤ) → Gives lowered ds f
-    → HasValues (count_of lowered) (meaning lowered) ds f
-values-lowered lowered ds f gives = record { whole = gives.count; each = gives.means }
-
 pub values-own : (lowered : Lowered) (ds : List ℕ) → count_of lowered ≡ size_of ds
     → HasValues (count_of lowered) (meaning lowered) ds (meaning_at lowered ds)
 values-own lowered ds count = record {

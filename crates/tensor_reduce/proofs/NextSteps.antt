@@ -1,13 +1,13 @@
 -- The step that is evaluated next gives its tensor, whatever is fused into it.
 use Rattle.std.proofs.Common.{◌≡◌, ℕ, ◌+◌, ◌-◌, ◌<◌, ◌≤◌, ◌^◌, List, [], ◌∷◌, ◌++◌}
 use Rattle.std.proofs.Common.{true, Ok, length, get_or, take, drop}
-use Rattle.std.proofs.Common.{refl, ap, sym, subst, ◌∙◌, arith}
-use Rattle.std.proofs.lemmas.List.{length-append, length-drop, take_all, append_assoc, append-nil}
+use Rattle.std.proofs.Common.{ap, sym, subst, ◌∙◌, arith}
+use Rattle.std.proofs.lemmas.List.{length-append, length-drop, take_all}
 use Rattle.tensor_ops.specs.Contents.{Contents}
 use Rattle.tensor_ops.specs.Legal.{widest}
 use Rattle.tensor_ops.specs.Result.{dims_of}
 use Rattle.tensor_ops.specs.Term.{has_inputs}
-use Rattle.tensor_reduce.specs.private.Held.{AreHeldFor, HasMore}
+use Rattle.tensor_reduce.specs.private.Held.{AreHeldFor}
 use Rattle.tensor_reduce.specs.private.Next.{IsNextOf, fused_in, last_number}
 use Rattle.tensor_reduce.specs.private.Next.{next_term, next_dims, next_schedule}
 use Rattle.tensor_reduce.specs.Plan.{term_of_step}
@@ -20,31 +20,6 @@ use Rattle.tensor_reduce.proofs.Held.{names-two, dims-two, IsFusedTerm-two}
 use Rattle.tensor_reduce.proofs.Held.{names-three, dims-three, IsFusedTerm-three}
 use Rattle.tensor_reduce.proofs.Schedules.{IsScheduleFor-fusing}
 use Rattle.tensor_reduce.proofs.Schedules.{IsFusingFor-combining, IsFusingFor-fused_with}
-
--- tensors, one more of them at a time
-pub HasMore-none : (tensors : List Contents) → HasMore 0 tensors tensors
-HasMore-none tensors = ([], (sym (append-nil tensors), refl))
-
-pub HasMore-one : (count : ℕ) (old mid new : List Contents) (t : Contents) → HasMore count old mid
-    → new ≡ mid ++ t ∷ [] → HasMore (count + 1) old new
-HasMore-one count old mid new t more now = (
-  more.0 ++ t ∷ [],
-  (
-    now ∙ ap (λ m. m ++ t ∷ []) more.1.0 ∙ append_assoc old more.0 (t ∷ []),
-    omega (arith, more.1.1, length-append more.0 (t ∷ [])),
-  ),
-)
-
-pub HasMore-length : (count : ℕ) (old new : List Contents) → HasMore count old new
-    → length new ≡ length old + count
-HasMore-length count old new more =
-    omega (arith, ap length more.1.0, more.1.1, length-append old more.0)
-
--- the steps that stand first among those left
-pub first-step : (left : List Step) (s : Step) → 1 ≤ length left → s ≡ get_or left 0 s
-    → left ≡ s ∷ drop 1 left
-first-step [] s some first = absurd (omega arith)
-first-step (x ∷ later) s some first = ap (λ y. y ∷ later) (sym first)
 
 pub two-steps : (left : List Step) (s r : Step) → 2 ≤ length left → s ≡ get_or left 0 s
     → r ≡ get_or left 1 r → left ≡ s ∷ r ∷ drop 2 left

@@ -11,7 +11,7 @@ use Rattle.tensor_ops.specs.Term.{Term, input, unary, binary, ternary, has_input
 use Rattle.tensor_ops.specs.Value.{tensor_of}
 use Rattle.tensor_reduce.specs.private.Cutting.{IsCut, AreStepsOf}
 use Rattle.tensor_ops.specs.Sequence.{worked_out}
-use Rattle.tensor_reduce.specs.Plan.{term_of_step, dims_of_step, terms_in}
+use Rattle.tensor_reduce.specs.Plan.{dims_of_step, terms_in}
 use Rattle.tensor_reduce.specs.Plan.{last_tensor, AreReady}
 use Rattle.tensor_ops.specs.Facts.{combines, combines_two}
 use Rattle.tensor_reduce.specs.Steps.{own, operand_nodes, step_nodes}
@@ -148,17 +148,3 @@ module _ (inputs : List Contents) (t : Term) (steps : List Step) where
         ∙ sym (append_assoc inputs earlier (tensor t ∷ [])) in
         ap last_tensor (worked_out-steps_of ∙ whole)
         ∙ last_tensor-append (inputs ++ earlier) (tensor t)
-
--- an input is a step as it is
-pub steps-input : (inputs : List Contents) (t : Term) (steps : List Step) (rest : Step)
-    → is_input t ≡ true
-    → IsCut inputs true t [] steps rest → AreStepsOf inputs t (steps ++ rest ∷ [])
-steps-input inputs (input n) steps rest here done = record {
-  terms = map-append term_of_step steps (rest ∷ [])
-      ∙ ap (λ l. l ++ term_of_step rest ∷ []) done.terms ∙ ap (λ v. v ∷ []) done.term;
-  nodes = map-append (λ s. Ok (dims_of_step s)) steps (rest ∷ [])
-      ∙ ap (λ l. l ++ Ok (dims_of_step rest) ∷ []) done.nodes ∙ ap (λ d. d ∷ []) (sym done.dims);
-}
-steps-input inputs (unary o a) steps rest here done = (cc)
-steps-input inputs (binary o a b) steps rest here done = (cc)
-steps-input inputs (ternary o a b c) steps rest here done = (cc)

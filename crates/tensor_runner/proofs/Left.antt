@@ -8,12 +8,12 @@ use Rattle.expr_reader.specs.Contents.{Contents}
 use Rattle.expr_reader.specs.Legal.{widest, IsPossible}
 use Rattle.expr_reader.specs.Result.{dims_of, shape_of}
 use Rattle.expr_reader.specs.Sequence.{worked_out}
-use Rattle.expr_reader.specs.Term.{Term, input, unary, binary, ternary, nodes_of}
+use Rattle.expr_reader.specs.Term.{Term, input, nodes_of}
 use Rattle.expr_reader.specs.Tree.{term_of}
 use Rattle.expr_reader.specs.Value.{tensor_of}
 use Rattle.expr_reader.specs.declared.binding.Binding.{Binding}
 use Rattle.expr_reader.specs.declared.request.Request.{Request}
-use Rattle.expr_reader.proofs.Bindings.{AreBound-request}
+use Rattle.expr_reader.proofs.Bindings.{AreBound-request, some-nodes}
 use Rattle.tensor_ops.specs.Bounds.{Bounds}
 use Rattle.tensor_ops.proofs.Widening.{dims_of-wider}
 use Rattle.tensor_terms.proofs.MoreTensors.{dims_of-same_dims}
@@ -21,13 +21,6 @@ use Rattle.tensor_runner.specs.private.Known.{dims_of_all}
 use Rattle.tensor_runner.specs.private.Left.{AreLeft, AreCounted}
 use Rattle.tensor_runner.specs.Work.{steps_over, steps_of_all}
 use Rattle.tensor_runner.proofs.DimsAlone.{steps_over-same}
-
--- a term has a node
-pub some-nodes : (t : Term) → 1 ≤ nodes_of t
-some-nodes (input n) = omega arith
-some-nodes (unary o a) = omega arith
-some-nodes (binary o a b) = omega arith
-some-nodes (ternary o a b c) = omega arith
 
 -- dims within bounds are dims
 pub dims-wider : (bounds : Bounds) (t : Term) (ts : List Contents) (d : List ℕ) → IsPossible bounds

@@ -1,4 +1,3 @@
-pub mod Counting
 pub mod Held
 pub mod InLines
 pub mod DimsAlone

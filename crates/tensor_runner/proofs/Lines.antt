@@ -45,7 +45,7 @@ IsAnswerTo-counted text count is long =
 pub short-counted : (text : List ℕ) (count : ℕ) → count ≡ length (take most_reads text) → count ≤ most_bytes → length text ≤ most_bytes
 short-counted text count is short = omega (arith, is, short, length-take most_reads text)
 
-fault_of : (f : Fault) → fault f ≡ fault TooLong → f ≡ TooLong
+pub fault_of : (f : Fault) → fault f ≡ fault TooLong → f ≡ TooLong
 fault_of f is = cc
 
 -- a fault that isn't of a text that is too long

@@ -51,9 +51,3 @@ pub command_after-Ok : (command : Command) (words left : List (List ℕ)) (first
     → options_in words ≡ first ∷ options_in left → setting_in first ≡ Ok setting
     → command_after command words ≡ command_after (with_setting command setting) left
 command_after-Ok command words left first setting begins is = rw (begins, is) (fold-cons_ok command setting (all_ok (map setting_in (options_in left))))
-
--- and one whose first option is refused
-pub command_after-Err : (command : Command) (words left : List (List ℕ)) (first : Written) (refusal : Refusal)
-    → options_in words ≡ first ∷ options_in left → setting_in first ≡ Err refusal
-    → command_after command words ≡ Err refusal
-command_after-Err command words left first refusal begins is = rw (begins, is) refl

@@ -1,6 +1,6 @@
 -- The line that answers a text, where there are limits.
 use Rattle.std.specs.Prelude.{MatchBool, IsSome, is_ok}
-use Rattle.std.proofs.Common.{◌≡◌, ◌⊎◌, ℕ, ◌<◌, ◌≤◌, Bool, true, false, if◌then◌else◌, List, Option, Some, None, Result, Ok, Err, length, take}
+use Rattle.std.proofs.Common.{◌≡◌, ℕ, ◌<◌, ◌≤◌, Bool, true, false, if◌then◌else◌, List, Option, Some, None, Result, Ok, Err, length, take}
 use Rattle.std.proofs.Common.{refl, ap, sym, subst, ◌∙◌, inl, inr}
 use Rattle.std.proofs.Math.Decide.{dec_le}
 use Rattle.std.proofs.Math.Nat.{lt_of_not-le}
@@ -49,7 +49,7 @@ IsLineUnder-take limits logs n text line more is = record {
 }
 
 -- the line of a fault
-fault_is_no_tensor : (f : Fault) (t : Contents) → fault f ≡ tensor t → ⊥
+pub fault_is_no_tensor : (f : Fault) (t : Contents) → fault f ≡ tensor t → ⊥
 fault_is_no_tensor f t is = cc
 
 fault-line : (limits : Limits) (r : Result Asked Fault) (f : Fault) → fault f ≡ answer_from r → fault_line f ≡ line_unless (refusal limits r) (line_of (answer_from r))
@@ -73,17 +73,17 @@ IsLineUnder-told limits logs text f line of is status has = record {
 }
 
 -- what is no request has no steps
-steps-fault : (limits : Limits) (logs : Bool) (r : Result Asked Fault) (f : Fault) → fault f ≡ answer_from r → steps_in limits logs r ≡ None
+pub steps-fault : (limits : Limits) (logs : Bool) (r : Result Asked Fault) (f : Fault) → fault f ≡ answer_from r → steps_in limits logs r ≡ None
 steps-fault limits logs (Ok a) f is = absurd (fault_is_no_tensor f (asked_tensor a) is)
 steps-fault limits logs (Err g) f is = refl
 
-fault_of : (f : Fault) → fault f ≡ fault NoMemory → f ≡ NoMemory
-fault_of f is = cc
+pub memory_of : (f : Fault) → fault f ≡ fault NoMemory → f ≡ NoMemory
+memory_of f is = cc
 
 HasSteps-none : (limits : Limits) (logs : Bool) (text : List ℕ) (f : Fault) (o : Option AnyFault) (steps : Option ℕ) → IsFaultOf text f → o ≡ Some (any.Request f) → steps ≡ None
     → HasSteps limits logs (request_of text) o steps
 HasSteps-none limits logs text f o steps (inl own) is none = inl (none ∙ sym (steps-fault limits logs (request_of text) f own))
-HasSteps-none limits logs text f o steps (inr memory) is none = inr (is ∙ ap (λ (g : Fault). Some (any.Request g)) (fault_of f memory.0), none)
+HasSteps-none limits logs text f o steps (inr memory) is none = inr (is ∙ ap (λ (g : Fault). Some (any.Request g)) (memory_of f memory.0), none)
 
 pub IsLineUnder-fault : (limits : Limits) (logs : Bool) (text : List ℕ) (f : Fault) (line : Line) → IsFaultOf text f → IsFaultLine f line
     → line.status ≡ status.Fault → line.steps ≡ None → IsLineUnder limits logs text line
@@ -147,18 +147,6 @@ short-asked text a asks = elim (dec_le (length text) most_bytes) [
 
 IsFaultOf-memory : (text : List ℕ) (a : Asked) → request_of text ≡ Ok a → IsFaultOf text NoMemory
 IsFaultOf-memory text a asks = inr (refl, short-asked text a asks)
-
--- a text answered by `NoMemory` isn't too long
-memory_is_not_long : (f : Fault) (r : Result Request Fault) → r ≡ Err f → f ≡ NoMemory → r ≡ Err TooLong → ⊥
-memory_is_not_long f r is memory long = cc
-
-pub IsFaultOf-read : (text : List ℕ) (f : Fault) (r : Result Request Fault) → r ≡ Err f → (most_bytes < length text → r ≡ Err TooLong)
-    → (f ≡ NoMemory) ⊎ (request_of text ≡ Err f) → IsFaultOf text f
-IsFaultOf-read text f r is long (inr asks) = inl (sym (ap answer_from asks))
-IsFaultOf-read text f r is long (inl memory) = elim (dec_le (length text) most_bytes) [
-  | yes short ↦ inr (ap fault memory, short)
-  | no above ↦ absurd (memory_is_not_long f r is memory (long (lt_of_not-le above)))
-]
 
 -- the line of `NoMemory` for a request whose tensor found no memory
 pub IsLineUnder-memory : (limits : Limits) (logs : Bool) (text : List ℕ) (a : Asked) (line : Line) → request_of text ≡ Ok a → IsFaultLine NoMemory line

@@ -1,9 +1,9 @@
 -- Bytes that are taken and given piece by piece.
-use Rattle.std.proofs.Common.{◌≡◌, ℕ, ◌≤◌, List, [], ◌+◌, ◌-◌, ◌++◌, length}
+use Rattle.std.proofs.Common.{◌≡◌, ℕ, ◌≤◌, List, ◌+◌, ◌-◌, ◌++◌, length}
 use Rattle.std.proofs.Common.{take, drop, min, Option, Some, None, ap, sym, ◌∙◌, subst}
 use Rattle.std.proofs.Common.{arith}
 use Rattle.std.specs.Prelude.{IfSome}
-use Rattle.message_server.proofs.Streams.{Consumes-trans, Consumes-none}
+use Rattle.message_server.proofs.Streams.{Consumes-trans}
 use Rattle.tensor_runner.specs.private.Kept.{IsKept, kept_len}
 use Rattle.tensor_runner.specs.private.Pieces.{IsFrontOf, Takes, HasTaken}
 use Rattle.tensor_runner.specs.Run.{most_reads, TakesAtMost}
@@ -53,10 +53,6 @@ HasTaken-front (Some all) (Some bs) xs kept h full is = record {
       (take_all most_reads xs (omega (arith, full)) ∙ sym (ap (λ (l : List ℕ). take most_reads l) h ∙ take_at xs bs most_reads full)) is;
   left = ap Some (sym (ap (λ (l : List ℕ). drop most_reads l) h ∙ drop_at xs bs most_reads full));
 }
-
--- nothing was taken
-pub HasTaken-none : (a : Option (List ℕ)) (kept : KeptText) → IsKept [] kept → HasTaken a a kept
-HasTaken-none a kept is = record { bytes = []; room = omega arith; kept_of = is; consumed = Consumes-none a }
 
 -- how many were taken
 pub HasTaken-len : (a b : Option (List ℕ)) (kept : KeptText) (t : HasTaken a b kept) → kept_len kept ≡ length t.bytes

@@ -11,7 +11,7 @@ use crate::limits::Limits;
 use thiserror::Error;
 
 /// The version of the programs.
-pub const VERSION: &str = "4.0.0";
+pub const VERSION: &str = "4.1.0";
 
 /// What the options ask of a program.
 #[derive(Clone, Copy, Debug, Drop, Eq, PartialEq)]

@@ -38,16 +38,6 @@ is_read lines p k first below number is =
       );
     }
 
--- a line is no longer than all of them
-pub line_within : (lines : Lines) (p : ℕ) → p < line_values lines 1
-    → lines.length ≤ line_values lines lines.length
-line_within lines p below =
-    let s = lines.stride in
-    let n = lines.blocks in
-    let some : 0 < s * n = grind arith in
-    let long : lines.length ≤ s * n * lines.length = omega (arith, le-mul_of_pos_right {m = s * n} lines.length some) in
-    grind arith
-
 -- an operation that is not cumulative takes all of the line
 pub along-single : (o : LineOperation) (lines : Lines) (f : ℕ → ℤ) (p : ℕ) → is_cumulative o ≡ false
     → along_at o lines f p ≡ outcome o (line_through lines 1 f p)

@@ -1,12 +1,10 @@
 -- Where places stand in their blocks, and what lines through them are.
-use Rattle.std.proofs.Common.{◌≡◌, ℕ, ℤ, zero, suc, ◌+◌, ◌*◌, ◌/◌, ◌%◌, ◌<◌, ◌≤◌, List, [], ◌∷◌, ◌++◌, map, append_assoc}
-use Rattle.std.proofs.Common.{ap, sym, ◌∙◌, arith}
+use Rattle.std.proofs.Common.{◌≡◌, ℕ, ℤ, zero, suc, ◌+◌, ◌*◌, ◌/◌, ◌%◌, ◌<◌, ◌≤◌, List, map}
+use Rattle.std.proofs.Common.{ap, ◌∙◌, arith}
 use Rattle.std.specs.List.{range_with_len}
 use Rattle.std.proofs.lemmas.Nat.{div-add-mod', div-mul-add, mod-mul-add, mod_below, div_below, mul-add-lt, row_fits_turned}
-use Rattle.std.proofs.lemmas.List.FromFn.{map-range_with_len_more}
 use Rattle.tensor_scans.specs.Places.{line_through}
 use Rattle.tensor_scans.specs.declared.lines.Lines.{Lines}
-use Rattle.tensor_values.proofs.Runs.{map-joined, map-shifted}
 
 -- a place of a block of rows: place i of row j
 pub record IsAt (s w block i j p : ℕ) : Type 0 where
@@ -62,26 +60,6 @@ pub line_through-at : (lines : Lines) (w : ℕ) (f : ℕ → ℤ) (block i j p :
 line_through-at lines w f block i j p at =
     ap (λ n. line_in lines f (p / (lines.stride * w)) n) (offset_of lines.stride w block i j p at)
     ∙ ap (λ n. line_in lines f n i) (block_of lines.stride w block i j p at)
-
--- a run after a run
-pub appended : {X : Type 0} (f g : ℕ → X) (n m : ℕ) (xs ys zs : List X)
-    → ys ≡ xs ++ map f (range_with_len 0 n) → zs ≡ ys ++ map g (range_with_len 0 m)
-    → ((k : ℕ) → k < m → g k ≡ f (n + k)) → zs ≡ xs ++ map f (range_with_len 0 (n + m))
-appended f g n m xs ys zs before added same =
-    let shifted : map g (range_with_len 0 m) ≡ map f (range_with_len (0 + n) m) =
-    map-shifted g f 0 (0 + n) m (λ k below. ap g (omega arith) ∙ same k below ∙ ap f (omega arith)) in
-    added ∙ ap (λ l. l ++ map g (range_with_len 0 m)) before
-    ∙ append_assoc xs (map f (range_with_len 0 n)) (map g (range_with_len 0 m))
-    ∙ ap (λ l. xs ++ (map f (range_with_len 0 n) ++ l)) shifted
-    ∙ ap (λ l. xs ++ l) (map-joined f 0 n m)
-
--- one value more
-pub one-more : {X : Type 0} (f : ℕ → X) (n : ℕ) (x : X) (xs ys zs : List X) → ys ≡ xs ++ map f (range_with_len 0 n)
-    → zs ≡ ys ++ x ∷ [] → x ≡ f n → zs ≡ xs ++ map f (range_with_len 0 (n + 1))
-one-more f n x xs ys zs before pushed is =
-    pushed ∙ ap (λ l. l ++ x ∷ []) before ∙ append_assoc xs (map f (range_with_len 0 n)) (x ∷ [])
-    ∙ ap (λ y. xs ++ (map f (range_with_len 0 n) ++ y ∷ [])) is
-    ∙ ap (λ l. xs ++ l) (sym (map-range_with_len_more f 0 n n (omega arith)))
 
 -- the end of a block is within all of them
 pub block_fits : (s w n block : ℕ) → block < n → block * (s * w) + s * w ≤ s * w * n

@@ -2,21 +2,9 @@
 use Rattle.std.proofs.Common.{◌≡◌, ℕ, ◌+◌, ◌-◌, ◌*◌, ◌/◌, ◌%◌, ◌<◌, ◌≤◌, subst, ap, arith}
 use Rattle.std.proofs.Math.Nat.{le-mul_of_pos_right, mul-le-mul_left}
 use Rattle.std.proofs.lemmas.Nat.{div-add-mod', mod_below, div_below}
-use Rattle.tensor_values.proofs.Factors.{some_size, some_factor}
+use Rattle.tensor_values.proofs.Factors.{some_factor}
 use Rattle.tensor_scans.proofs.LinePlaces.{block-lt}
 use Rattle.tensor_scans.proofs.Rows.{IsAt, block_of}
-
--- where a place stands by divisions of it
-pub is_divided : (s w n p : ℕ) → p < s * w * n → IsAt s w (p / s / w) (p % s) (p / s % w) p
-is_divided s w n p below =
-    let some : 0 < s * w = some_size (s * w) n p below in
-    let parts : p / s * s + p % s ≡ p = div-add-mod' p s in
-    let rows : p / s / w * w + p / s % w ≡ p / s = div-add-mod' (p / s) w in
-    record {
-      inside = mod_below p s (some_size s w 0 some);
-      row = mod_below (p / s) w (some_factor s w 0 some);
-      place = grind arith;
-    }
 
 -- where there is a place there is a block
 pub block-within : (s w d n p : ℕ) → p < s * w * n → s * d ≤ s * d * n

@@ -37,13 +37,6 @@ are_axes-cons rank x xs axis =
     (and_from (not (is_among x xs)) (are_axes rank xs)
     (not_from_false (is_among x xs) axis.alone) axis.rest)
 
--- the axes from one of them on
-pub are_axes-drop : (rank k : ℕ) (xs : List ℕ) → are_axes rank xs ≡ true
-    → are_axes rank (drop k xs) ≡ true
-are_axes-drop rank zero xs h = h
-are_axes-drop rank (suc k) [] h = refl
-are_axes-drop rank (suc k) (x ∷ xs) h = are_axes-drop rank k xs (are_axes-first rank x xs h).rest
-
 -- each of them is below the rank
 pub get_or-are_axes : (rank k : ℕ) (xs : List ℕ) → are_axes rank xs ≡ true → k < length xs
     → get_or xs k 0 < rank

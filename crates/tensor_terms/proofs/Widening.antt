@@ -10,7 +10,7 @@ use Rattle.tensor_shape.specs.declared.bounds.Bounds.{Bounds}
 use Rattle.tensor_terms.specs.Along.{replaced_dims}
 use Rattle.tensor_terms.specs.Contents.{Contents}
 use Rattle.tensor_terms.specs.Concatenation.{joined_dims}
-use Rattle.tensor_terms.specs.Contraction.{firsts, seconds, outer_dims, few_products, products_within, most_products, text_products}
+use Rattle.tensor_terms.specs.Contraction.{firsts, seconds, outer_dims, few_products, products_within, most_products}
 use Rattle.tensor_terms.specs.Convolution.{fit_along, window_dims}
 use Rattle.tensor_terms.specs.Movement.{none_is_zero, repeated_dims}
 use Rattle.tensor_terms.specs.Padding.{padded_dims}

@@ -12,7 +12,7 @@ ghost use Rattle.tensor_terms.specs.Tree.{term_of, movement_at, term_at};
 use crate::expr::node::{Binary, Movement, Node, Ternary, Unary};
 use std::alloc::Global;
 use tensor_scans::LineOperation;
-use tensor_values::{BinaryScalar, Reducer, UnaryScalar};
+use tensor_values::{BinaryScalar, Reducer, UnaryScalar, binary_names, unary_names};
 
 /// A tree of operations over inputs, with one variant for each operation. Values are 64-bit signed
 /// integers, and results are taken modulo 2^64. A value is true if it isn't 0. Comparisons and
@@ -31,6 +31,8 @@ pub enum Expr {
     Not(Box<Expr>),
     /// The bitwise complement of each value.
     BitNot(Box<Expr>),
+    /// How many bits of the absolute value of each value are set.
+    BitCount(Box<Expr>),
     /// The sum of two values.
     Add(Box<Expr>, Box<Expr>),
     /// The first value less the second.
@@ -136,36 +138,27 @@ pub enum Expr {
     Take(Box<Expr>, Box<Expr>, u64),
 }
 
+/// Returns the expression that the operation makes of the operands.
+macro_rules! expression {
+    (($($name:ident)*), $kind:ident, $operation:expr, $operands:tt) => {
+        match $operation {
+            $($kind::$name => Expr::$name $operands,)*
+        }
+    };
+}
+
+/// Matches each expression by one of the operations.
+macro_rules! any_of {
+    (($($name:ident)*), $fields:tt) => { $(Expr::$name $fields)|* };
+}
+
 // One `drop` for all variants: the prover unfolds a derived one wherever an expression is dropped.
 impl Drop for Expr {
     fn drop(self) {
         match self {
             Expr::Input(_)
-            | Expr::Neg(_)
-            | Expr::Abs(_)
-            | Expr::Square(_)
-            | Expr::Not(_)
-            | Expr::BitNot(_)
-            | Expr::Add(_, _)
-            | Expr::Sub(_, _)
-            | Expr::Mul(_, _)
-            | Expr::CwiseMax(_, _)
-            | Expr::CwiseMin(_, _)
-            | Expr::Lt(_, _)
-            | Expr::Le(_, _)
-            | Expr::Eq(_, _)
-            | Expr::Ne(_, _)
-            | Expr::Gt(_, _)
-            | Expr::Ge(_, _)
-            | Expr::And(_, _)
-            | Expr::Or(_, _)
-            | Expr::FloorDivide(_, _)
-            | Expr::Remainder(_, _)
-            | Expr::BitAnd(_, _)
-            | Expr::BitOr(_, _)
-            | Expr::BitXor(_, _)
-            | Expr::ShiftLeft(_, _)
-            | Expr::ShiftRight(_, _)
+            | unary_names!(any_of, (_))
+            | binary_names!(any_of, (_, _))
             | Expr::Select(_, _, _)
             | Expr::Constant(_, _)
             | Expr::Broadcast(_, _)
@@ -199,13 +192,7 @@ impl Expr {
     pub fn each(operation: UnaryScalar, operand: Box<Expr>) -> Expr
         ensures { term_of result ≡ unary (each operation) (term_of operand.value) }
     {
-        match operation {
-            UnaryScalar::Neg => Expr::Neg(operand),
-            UnaryScalar::Abs => Expr::Abs(operand),
-            UnaryScalar::Square => Expr::Square(operand),
-            UnaryScalar::Not => Expr::Not(operand),
-            UnaryScalar::BitNot => Expr::BitNot(operand),
-        }
+        unary_names!(expression, UnaryScalar, operation, (operand))
     }
 
     /// Returns an operation on the values of two tensors of equal dims, value by value.
@@ -213,28 +200,7 @@ impl Expr {
         ensures { term_of result
             ≡ binary (pairwise operation) (term_of left.value) (term_of right.value) }
     {
-        match operation {
-            BinaryScalar::Add => Expr::Add(left, right),
-            BinaryScalar::Sub => Expr::Sub(left, right),
-            BinaryScalar::Mul => Expr::Mul(left, right),
-            BinaryScalar::CwiseMax => Expr::CwiseMax(left, right),
-            BinaryScalar::CwiseMin => Expr::CwiseMin(left, right),
-            BinaryScalar::Lt => Expr::Lt(left, right),
-            BinaryScalar::Le => Expr::Le(left, right),
-            BinaryScalar::Eq => Expr::Eq(left, right),
-            BinaryScalar::Ne => Expr::Ne(left, right),
-            BinaryScalar::Gt => Expr::Gt(left, right),
-            BinaryScalar::Ge => Expr::Ge(left, right),
-            BinaryScalar::And => Expr::And(left, right),
-            BinaryScalar::Or => Expr::Or(left, right),
-            BinaryScalar::FloorDivide => Expr::FloorDivide(left, right),
-            BinaryScalar::Remainder => Expr::Remainder(left, right),
-            BinaryScalar::BitAnd => Expr::BitAnd(left, right),
-            BinaryScalar::BitOr => Expr::BitOr(left, right),
-            BinaryScalar::BitXor => Expr::BitXor(left, right),
-            BinaryScalar::ShiftLeft => Expr::ShiftLeft(left, right),
-            BinaryScalar::ShiftRight => Expr::ShiftRight(left, right),
-        }
+        binary_names!(expression, BinaryScalar, operation, (left, right))
     }
 
     /// Returns a reduction over axes.
@@ -274,6 +240,7 @@ impl Expr {
             Expr::Square(a) => applied(UnaryScalar::Square, a),
             Expr::Not(a) => applied(UnaryScalar::Not, a),
             Expr::BitNot(a) => applied(UnaryScalar::BitNot, a),
+            Expr::BitCount(a) => applied(UnaryScalar::BitCount, a),
             Expr::Add(a, b) => combined(BinaryScalar::Add, a, b),
             Expr::Sub(a, b) => combined(BinaryScalar::Sub, a, b),
             Expr::Mul(a, b) => combined(BinaryScalar::Mul, a, b),

@@ -11,11 +11,6 @@ use Rattle.tensor_views.specs.View.{view_size, reached, steps_to}
 use Rattle.tensor_views.specs.declared.axis.Axis.{Axis}
 use Rattle.tensor_values.proofs.Factors.{some_size}
 
--- one axis of a list of them
-pub split_axes-at : (stride : ℕ) (axes : List Axis) (i : ℕ) (d : Axis) → i < length axes
-    → split_axes stride (drop i axes) ≡ split_axes stride (get_or axes i d ∷ drop (i + 1) axes)
-split_axes-at stride axes i d within = rw (add-one, drop-cons axes i d within) refl
-
 pub view_size-at : (axes : List Axis) (i : ℕ) (d : Axis) → i < length axes
     → view_size (drop i axes) ≡ (get_or axes i d).size * view_size (drop (i + 1) axes)
 view_size-at axes i d within = rw (add-one, drop-cons axes i d within) refl

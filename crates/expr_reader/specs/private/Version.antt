@@ -1,5 +1,6 @@
 -- The versions and operations of the code, as profiles and operations of the table.
-use Rattle.std.specs.Prelude.{List, [], ◌∷◌}
+use Rattle.std.specs.Prelude.{ℕ, List, [], ◌∷◌, map}
+use Rattle.std.specs.Borrow.{Bor}
 use Rattle.tensor_ops.specs.Term as term
 use Rattle.tensor_ops.specs.Term.{each, constant, movement, pad, reduce, along, pairwise}
 use Rattle.tensor_ops.specs.Term.{concat, contract, convolve, taking}
@@ -86,3 +87,7 @@ abbrev pub operation_under : Operation → table.Operation
 operation_under (One u) = one (forms_of u) (unary_of u)
 operation_under (Two b) = two (forms_of_two b) (binary_of b)
 operation_under Select = three [] (λ none. term.select)
+
+-- a table of the code, as operations of the table by name
+abbrev pub table_under : List (Bor (List ℕ) × Operation) → List (List ℕ × table.Operation)
+table_under rows = map (λ row. (row.0.now, operation_under row.1)) rows

@@ -130,8 +130,8 @@ fn thousand_of(expr: &Expr, places: u64) -> u64 {
 /// time.
 fn one_operand(operation: Unary<'_>) -> u64 {
     match operation {
-        Unary::Each(UnaryScalar::Neg | UnaryScalar::Abs | UnaryScalar::BitNot) => SUMS,
         Unary::Each(UnaryScalar::Square | UnaryScalar::Not) => PRODUCTS,
+        Unary::Each(_) => SUMS,
         Unary::Move(Movement::Reshape(_)) | Unary::Constant(_) => 0,
         Unary::Move(Movement::Shuffle(_) | Movement::Stride(_)) | Unary::Pad(_) => SCATTERED,
         Unary::Move(_) => IN_ROWS,

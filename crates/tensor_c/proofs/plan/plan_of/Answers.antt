@@ -1,13 +1,14 @@
-use Rattle.std.proofs.Common.{◌≡◌, ◌++◌, ◌∷◌, [], ℕ, List, Ok, ap, sym, ◌∙◌, subst, is_ok}
+use Rattle.std.proofs.Common.{◌≡◌, ◌++◌, ◌∷◌, [], Ok, ap, sym, ◌∙◌, subst, is_ok}
 use Rattle.expr_reader.specs.Bindings.{terms_under}
 use Rattle.expr_reader.specs.Outline.{outlined}
 use Rattle.expr_reader.specs.Tree.{term_of}
 use Rattle.expr_reader.proofs.Bindings.{AreBound-all}
-use Rattle.prepared_expressions.specs.Prepared.{dims_of_all}
-use Rattle.tensor_c.specs.Plan.{asked_over, prepared_of, IsPlan}
+use Rattle.prepared_expressions.specs.Prepared.{prepared_of, dims_of_all}
+use Rattle.prepared_expressions.proofs.Dealing.{dims_of_all-dealt}
+use Rattle.tensor_c.specs.Plan.{IsPlan}
 use Rattle.tensor_c.proofs.Bound.{HaveDims-bound}
 use Rattle.tensor_c.proofs.Dims.{HaveDims-same}
-use Rattle.tensor_c.proofs.Plans.{dims_of_all-dealt, HaveSameDims-all}
+use Rattle.tensor_c.proofs.Plans.{HaveSameDims-all}
 use Rattle.tensor_c.proofs.plan.plan_of.Goals as goal
 
 pub returns-in-Ok-clause-ready : goal.returns-in-Ok-clause-ready

@@ -12,7 +12,8 @@ use Rattle.expr_reader.specs.Value.{tensor_of}
 use Rattle.expr_reader.proofs.Bound.{length-worked_out}
 use Rattle.tensor_runner.specs.private.Held.{AreHeldFor}
 use Rattle.tensor_runner.proofs.Held.{AreHeldFor-all, AreHeldFor-first, AreHeldFor-next, dims-held, tensor-held, dims-last, tensor-last}
-use Rattle.tensor_runner.proofs.Left.{some-nodes, dims-wider, AreLeft-start, AreLeft-first, AreLeft-next, AreLeft-end}
+use Rattle.expr_reader.proofs.Bindings.{some-nodes}
+use Rattle.tensor_runner.proofs.Left.{dims-wider, AreLeft-start, AreLeft-first, AreLeft-next, AreLeft-end}
 use Rattle.tensor_runner.proofs.evaluation.eval_until.Goals as goal
 
 pub loop-done-init : goal.loop-done-init
