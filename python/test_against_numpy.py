@@ -9,6 +9,8 @@ from tensor_client.rewriting.bindings import ALONG_AN_AXIS
 from tensor_client.rules import slid
 from asking import WAYS, each_way, only_by
 from drawn import ByNumpy
+from fuzzing.elementwise import ON_INTEGERS, POINTWISE
+from fuzzing.operations import wrap
 from test_asked import TEXTS, documented, method
 
 try:
@@ -16,37 +18,8 @@ try:
 except ImportError:
     numpy = None
 
-ELEMENTWISE = {
-    "neg": lambda a: -a,
-    "abs": lambda a: numpy.abs(a),
-    "square": lambda a: a * a,
-    "not": lambda a: a == 0,
-    "add": lambda a, b: a + b,
-    "sub": lambda a, b: a - b,
-    "mul": lambda a, b: a * b,
-    "cwise_max": lambda a, b: numpy.maximum(a, b),
-    "cwise_min": lambda a, b: numpy.minimum(a, b),
-    "lt": lambda a, b: a < b,
-    "le": lambda a, b: a <= b,
-    "eq": lambda a, b: a == b,
-    "ne": lambda a, b: a != b,
-    "gt": lambda a, b: a > b,
-    "ge": lambda a, b: a >= b,
-    "and": lambda a, b: (a != 0) & (b != 0),
-    "or": lambda a, b: (a != 0) | (b != 0),
-    "select": lambda c, a, b: numpy.where(c != 0, a, b),
-}
-# Operations that only frames have.
-ON_INTEGERS = {
-    "floor_divide": lambda a, b: a // b,
-    "remainder": lambda a, b: a % b,
-    "bit_and": lambda a, b: a & b,
-    "bit_or": lambda a, b: a | b,
-    "bit_xor": lambda a, b: a ^ b,
-    "bit_not": lambda a: ~a,
-    "shift_left": lambda a, b: a << b,
-    "shift_right": lambda a, b: a >> b,
-}
+# Functions that numpy has from version 2 on.
+LATER = {"bitwise_count"}
 REDUCTIONS = {
     "sum": lambda a, axes: a.sum(axis=axes),
     "prod": lambda a, axes: a.prod(axis=axes),
@@ -55,6 +28,14 @@ REDUCTIONS = {
     "all": lambda a, axes: (a != 0).all(axis=axes),
     "any": lambda a, axes: (a != 0).any(axis=axes),
 }
+
+
+def by_numpy(count, meaning, name):
+    """Returns numpy's function of an operation on values, or, for an older numpy, one made of its meaning."""
+    if name in LATER and not hasattr(numpy, name):
+        own = numpy.frompyfunc(lambda *them: wrap(meaning(*them)), count, 1)
+        return lambda *arrays: numpy.asarray(own(*arrays))
+    return getattr(numpy, name)
 
 
 def convolved(array, kernel, axes):
@@ -72,25 +53,24 @@ def convolved(array, kernel, axes):
 class AgainstNumpy(ByNumpy):
     """Each operation on random arrays, compared with numpy."""
 
-    def test_elementwise(self):
-        for operation, wanted in ELEMENTWISE.items():
+    def of_each(self, operations):
+        """Compares operations on values, also for a second operand that may count places."""
+        for operation, row in operations.items():
             for source in self.each_trial(operation):
                 dims = source.dims()
-                arrays = [source.array(dims) for _ in range(wanted.__code__.co_argcount)]
-                expr = method(tensor(arrays[0]), operation)(*map(tensor, arrays[1:]))
-                self.agree(expr, wanted(*arrays), source)
-
-    @only_by(*(it for it in WAYS if it not in TEXTS))
-    def test_on_integers(self):
-        for operation, wanted in ON_INTEGERS.items():
-            for source in self.each_trial(operation):
-                dims = source.dims()
-                arrays = [source.array(dims) for _ in range(wanted.__code__.co_argcount)]
-                counts = [arrays[0], *(it % 70 for it in arrays[1:])]
-                for some in (arrays, counts):
+                arrays = [source.array(dims) for _ in range(row[0])]
+                for some in (arrays, [arrays[0], *(it % 70 for it in arrays[1:])]):
                     expr = method(tensor(some[0]), operation)(*map(tensor, some[1:]))
                     with numpy.errstate(all="ignore"):
-                        self.agree(expr, wanted(*some), source)
+                        self.agree(expr, by_numpy(*row)(*some), source)
+
+    def test_elementwise(self):
+        self.of_each(POINTWISE)
+
+    # Operations that only frames have.
+    @only_by(*(it for it in WAYS if it not in TEXTS))
+    def test_on_integers(self):
+        self.of_each(ON_INTEGERS)
 
     def test_reductions(self):
         for operation, wanted in REDUCTIONS.items():
@@ -193,7 +173,7 @@ class AgainstNumpy(ByNumpy):
             self.agree(contract(left, right, list(zip(ours, theirs))), wanted, source)
 
     def test_every_operation_is_here(self):
-        alone = documented() - {*ELEMENTWISE, *ON_INTEGERS, *REDUCTIONS, *ALONG_AN_AXIS}
+        alone = documented() - {*POINTWISE, *ON_INTEGERS, *REDUCTIONS, *ALONG_AN_AXIS}
         self.assertLessEqual({f"test_{it}" for it in alone}, set(dir(self)))
 
     def test_operators_with_arrays(self):

@@ -11,17 +11,15 @@ from tensor_client.rewriting.mirrored import MIRRORS, lie_mirrored, mirrored, re
 from tensor_client.results import Result
 from tensor_client.tensors import Tensor
 from asking import OneWay, each_way
+from fuzzing.elementwise import ON_INTEGERS, POINTWISE
+from fuzzing.operations import REDUCTIONS
+from test_asked import method
 
 DIMS = (3, 4, 2)
 SEED, DRAWN, STEPS = 1, 200, 5
 # For each operation, an expression over two tensors of these dims, one of them in C order.
 EACH = {
-    "neg": lambda x, y: -x,
-    "abs": lambda x, y: abs(x),
-    "square": lambda x, y: x.square(),
-    "not": lambda x, y: x.not_(),
     "constant": lambda x, y: x.constant(5),
-    "select": lambda x, y: (x < y).select(x, y),
     "broadcast": lambda x, y: x.broadcast(2, 1, 3),
     "slice": lambda x, y: x.slice([1, 0, 1], [2, 3, 1]),
     "shuffle": lambda x, y: x.shuffle(1, 2, 0),
@@ -33,13 +31,11 @@ EACH = {
     "reshape": lambda x, y: x.in_dims([4, 6]),
     "contract": lambda x, y: x.contract(y, [(1, 1), (0, 0)]),
     "convolve": lambda x, y: x.convolve(y.slice([0, 0, 0], [2, 3, 1]).in_dims([2, 3]), 0, 1),
-    "bit_not": lambda x, y: ~x,
     "take": lambda x, y: x.taken(y.chip(1, 2), 1),
 }
-VALUES = "add sub mul cwise_max cwise_min lt le eq ne gt ge and or".split()
-VALUES += "floor_divide remainder bit_and bit_or bit_xor shift_left shift_right".split()
-EACH.update({it: lambda x, y, it=it: client.expressions.elementwise(it, x, y) for it in VALUES})
-for reduction in "sum prod maximum minimum all any".split():
+for name, (count, *_) in {**POINTWISE, **ON_INTEGERS}.items():
+    EACH[name] = lambda x, y, it=name, more=count - 1: method(x, it)(*(y, x)[:more])
+for reduction in REDUCTIONS:
     EACH[reduction] = lambda x, y, it=reduction: x.reduced(it, [2, 0])
 for along in "cumsum cumprod argmax argmin".split():
     EACH[along] = lambda x, y, it=along: x.along(it, 0)

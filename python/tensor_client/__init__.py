@@ -25,7 +25,7 @@ from .running import Session as Session, run as run
 from .tensors import Tensor as Tensor, placeholder as placeholder, tensor as tensor
 from .values import GREATEST as GREATEST, LEAST as LEAST, numpy as _numpy
 
-__version__ = "4.0.0"
+__version__ = "4.1.0"
 
 # numpy's names for a new axis in an index, and for the dtypes that values can have.
 newaxis = None

@@ -3,29 +3,18 @@ The examples take their names from the package."""
 
 from __future__ import annotations
 
-from typing import Any, Callable, Optional, Sequence
+from typing import Any, Optional, Sequence
 
 from . import rules
 from .methods import NumpyMethods
-from .operators import told
 from .rules import Dims, alike
 from .values import WRAPPING, as_bits, flag, is_bool, listed, value_of, whole
 
 MANY = 1_000_000_000
-# Operations that give truth values always, or of two truth values. `or` sums two truth values.
-COMPARING = frozenset("lt le eq ne gt ge and or".split())
-OF_TRUTHS = frozenset("add mul cwise_max cwise_min bit_and bit_or bit_xor".split())
+# Operations that give truth values always, or of truth values alone. `or` sums two truth values.
+COMPARING = frozenset("not lt le eq ne gt ge and or".split())
+OF_TRUTHS = frozenset("abs add mul cwise_max cwise_min bit_and bit_or bit_xor".split())
 SUMS = {"add": "or"}
-OfOther = Callable[[Any], "Expr"]
-
-
-def pairwise(operation: str, what: str, *example: str) -> Any:
-    """Returns an elementwise operation of the request on two operands as a method, with an example."""
-
-    def method(self: Expr, other: Any) -> Expr:
-        return elementwise(operation, self, other)
-
-    return told(method, operation + "_" * (operation in ("and", "or")), what, *example)
 
 
 class Expr(NumpyMethods):
@@ -90,39 +79,7 @@ class Expr(NumpyMethods):
             return self
         return Expr(self.operation, self.operands, self.arguments, self.dims)
 
-    # Elementwise operations on one operand.
-
-    def neg(self) -> Expr:
-        """Returns the negated values: -x.
-
-        >>> run(-tensor([1, 2])).values
-        [-1, -2]
-        """
-        return Expr("neg", [self], dims=self.dims)
-
-    def abs(self) -> Expr:
-        """Returns the absolute values: abs(x). For the least i64 this is the least i64, as in numpy.
-
-        >>> run(abs(tensor([1, -2]))).values
-        [1, 2]
-        """
-        return Expr("abs", [self], dims=self.dims, truth=self.truth)
-
-    def square(self) -> Expr:
-        """Returns each value times itself: x**2.
-
-        >>> run(tensor([1, -2]).square()).values
-        [1, 4]
-        """
-        return Expr("square", [self], dims=self.dims)
-
-    def not_(self) -> Expr:
-        """Returns 1 where a value is 0, and 0 elsewhere.
-
-        >>> run(tensor([0, 5]).not_()).values
-        [1, 0]
-        """
-        return Expr("not", [self], dims=self.dims, truth=True)
+    # Elementwise operations with arguments, and on three operands. operations.py has the others.
 
     def constant(self, value: int) -> Expr:
         """Returns this value at every place.
@@ -131,60 +88,6 @@ class Expr(NumpyMethods):
         [7, 7]
         """
         return Expr("constant", [self], [value_of(value)], self.dims, is_bool(value))
-
-    # Elementwise operations on two and three operands. Dims are broadcast as in numpy.
-
-    add: OfOther = pairwise("add", "Returns the sums: x + y.", "tensor([1, 2]) + 10", "[11, 12]")
-    sub: OfOther = pairwise("sub", "Returns the differences: x - y.", "tensor([1, 2]) - 1", "[0, 1]")
-    mul: OfOther = pairwise("mul", "Returns the products: x * y.", "tensor([1, 2]) * [3, 4]", "[3, 8]")
-    cwise_max: OfOther = pairwise(
-        "cwise_max", "Returns the greater of each two values: numpy's maximum(x, y).",
-        "tensor([1, 5]).cwise_max([3, 4])", "[3, 5]",
-    )
-    cwise_min: OfOther = pairwise(
-        "cwise_min", "Returns the lesser of each two values: numpy's minimum(x, y).",
-        "tensor([1, 5]).cwise_min(3)", "[1, 3]",
-    )
-    lt: OfOther = pairwise("lt", "Returns 1 where x < y, else 0.", "tensor([1, 2]) < 2", "[1, 0]")
-    le: OfOther = pairwise("le", "Returns 1 where x <= y, else 0.", "tensor([1, 2, 3]) <= 2", "[1, 1, 0]")
-    eq: OfOther = pairwise("eq", "Returns 1 where x == y, else 0.", "tensor([1, 2]) == [1, 3]", "[1, 0]")
-    ne: OfOther = pairwise("ne", "Returns 1 where x != y, else 0.", "tensor([1, 2]) != [1, 3]", "[0, 1]")
-    gt: OfOther = pairwise("gt", "Returns 1 where x > y, else 0.", "tensor([1, 2]) > 1", "[0, 1]")
-    ge: OfOther = pairwise("ge", "Returns 1 where x >= y, else 0.", "tensor([1, 2, 3]) >= 2", "[0, 1, 1]")
-    and_: OfOther = pairwise(
-        "and", "Returns 1 where neither value is 0, else 0: numpy's logical_and.",
-        "tensor([0, 5, 5]).and_([5, 0, 7])", "[0, 0, 1]",
-    )
-    or_: OfOther = pairwise(
-        "or", "Returns 1 where some value isn't 0, else 0: numpy's logical_or.",
-        "tensor([0, 5, 0]).or_([0, 0, 7])", "[0, 1, 1]",
-    )
-    floor_divide: OfOther = pairwise(
-        "floor_divide", "Returns the quotients, rounded down: x // y. x // 0 is 0, as in numpy.",
-        "tensor([7, -7, 7]) // [2, 2, 0]", "[3, -4, 0]",
-    )
-    remainder: OfOther = pairwise(
-        "remainder", "Returns the remainders, with the sign of y: x % y. x % 0 is 0, as in numpy.",
-        "tensor([7, -7, 7]) % [2, 2, 0]", "[1, 1, 0]",
-    )
-    bit_and: OfOther = pairwise(
-        "bit_and", "Returns the bits that both have: x & y.", "tensor([12, -1]) & 10", "[8, 10]"
-    )
-    bit_or: OfOther = pairwise(
-        "bit_or", "Returns the bits that either has: x | y.", "tensor([12, -1]) | 10", "[14, -1]"
-    )
-    bit_xor: OfOther = pairwise(
-        "bit_xor", "Returns the bits that only one has: x ^ y.", "tensor([12, -1]) ^ 10", "[6, -11]"
-    )
-    shift_left: OfOther = pairwise(
-        "shift_left", "Returns x << y. It is 0 for y below 0 or above 63, as in numpy.",
-        "tensor([1, 1, 1]).shift_left([3, 63, 64])", "[8, -9223372036854775808, 0]",
-    )
-    shift_right: OfOther = pairwise(
-        "shift_right",
-        "Returns x >> y. For y below 0 or above 63 it is 0 or, for negative x, -1, as in numpy.",
-        "tensor([9, -9, -9]) >> [1, 1, 64]", "[4, -5, -1]",
-    )
 
     def select(self, x: Any, y: Any) -> Expr:
         """Returns x where this expression isn't 0, and y elsewhere: where(this, x, y).
@@ -357,8 +260,14 @@ def of_truths(products: Expr) -> Expr:
     return products.ne(0) if all(it.truth for it in products.operands) else products
 
 
+def of_each(operation: str, x: Expr) -> Expr:
+    """Returns an elementwise operation on one operand."""
+    truth = operation in COMPARING or (x.truth and operation in OF_TRUTHS)
+    return Expr(operation, [x], dims=x.dims, truth=truth)
+
+
 def elementwise(operation: str, left: Expr, right: Any) -> Expr:
-    """Returns an elementwise operation, over the dims that fit both operands."""
+    """Returns an elementwise operation on two operands, over the dims that fit both."""
     if not isinstance(right, Expr):
         right = beside(as_bits(right) if operation in WRAPPING else right, left)
     other: Expr = right

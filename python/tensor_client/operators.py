@@ -4,18 +4,12 @@ from __future__ import annotations
 
 from typing import TYPE_CHECKING, Any, Callable, Optional, Protocol, Sequence, Tuple, overload
 
+from .operations import OPERATIONS, Operation, Valuewise
 from .rules import Dims
 from .values import WRAPPING, NumpysOwn, as_bits, is_bool, is_several, whole
 
 if TYPE_CHECKING:
     from .expressions import Expr
-
-
-def told(function: Callable[..., Any], name: str, what: str, example: str, wanted: str) -> Any:
-    """Gives a function a name, and a docstring with an example."""
-    function.__name__ = function.__qualname__ = name
-    function.__doc__ = f"{what}\n\n    >>> run({example}).values\n    {wanted}\n    "
-    return function
 
 
 class Pairwise(Protocol):
@@ -31,74 +25,49 @@ class Pairwise(Protocol):
     def __call__(self, other: object) -> Expr: ...
 
 
-def between(method: str, name: str) -> Any:
-    """Returns an operator, by a method of expressions or by numpy's function of this name."""
+def between(it: Operation) -> Any:
+    """Returns an operator of the table, by the method of expressions or by numpy's function."""
+    method = it.method
 
     def operator(self: Any, other: Any) -> Any:
         try:
             return getattr(self, method)(other)
         except NumpysOwn:
-            return self._by_numpy(name, self, other)
+            return self._by_numpy(it.numpy, self, other)
 
     return operator
 
 
-def behind(method: str, name: str) -> Any:
-    """Returns the operator of an expression on the right."""
+def behind(it: Operation) -> Any:
+    """Returns an operator of the table for an expression on the right."""
 
     def operator(self: Any, other: Any) -> Any:
         try:
-            first = as_bits(other) if method in WRAPPING else other
-            return getattr(self._beside(first), method)(self)
+            first = as_bits(other) if it.name in WRAPPING else other
+            return getattr(self._beside(first), it.method)(self)
         except NumpysOwn:
-            return self._by_numpy(name, other, self)
+            return self._by_numpy(it.numpy, other, self)
 
     return operator
 
 
-class Operators:
-    """The operators of expressions. Expr has the operations of a text."""
+class Operators(Valuewise):
+    """The operators of expressions. Those of the table that have no method here are put in below."""
 
     __slots__ = ()
 
     if TYPE_CHECKING:
         dims: Optional[Dims]
         truth: bool
-        neg: Callable[[], Expr]
-        abs: Callable[[], Expr]
-        not_: Callable[[], Expr]
-        mul: Callable[[Any], Expr]
-        ne: Callable[[Any], Expr]
-        and_: Callable[[Any], Expr]
-        or_: Callable[[Any], Expr]
-        bit_and: Callable[[Any], Expr]
-        bit_or: Callable[[Any], Expr]
-        bit_xor: Callable[[Any], Expr]
-        shift_left: Callable[[Any], Expr]
-        cwise_max: Callable[[Any], Expr]
         shuffle: Callable[..., Expr]
         in_dims: Callable[[Sequence[int]], Expr]
         reduced: Callable[[str, Sequence[int]], Expr]
-
-    __add__: Pairwise = between("add", "add")
-    __sub__: Pairwise = between("sub", "subtract")
-    __mul__: Pairwise = between("mul", "multiply")
-    __floordiv__: Pairwise = between("floor_divide", "floor_divide")
-    __mod__: Pairwise = between("remainder", "remainder")
-    __radd__: Pairwise = behind("add", "add")
-    __rsub__: Pairwise = behind("sub", "subtract")
-    __rmul__: Pairwise = behind("mul", "multiply")
-    __rfloordiv__: Pairwise = behind("floor_divide", "floor_divide")
-    __rmod__: Pairwise = behind("remainder", "remainder")
-    __rshift__: Pairwise = between("shift_right", "right_shift")
-    __rlshift__: Pairwise = behind("shift_left", "left_shift")
-    __rrshift__: Pairwise = behind("shift_right", "right_shift")
-    __lt__: Pairwise = between("lt", "less")
-    __le__: Pairwise = between("le", "less_equal")
-    __gt__: Pairwise = between("gt", "greater")
-    __ge__: Pairwise = between("ge", "greater_equal")
-    __eq__: Pairwise = between("eq", "equal")  # type: ignore[assignment]
-    __ne__: Pairwise = between("ne", "not_equal")  # type: ignore[assignment]
+        __add__: Pairwise
+        __sub__ = __mul__ = __floordiv__ = __mod__ = __rshift__ = __add__
+        __radd__ = __rsub__ = __rmul__ = __rfloordiv__ = __rmod__ = __rlshift__ = __rrshift__ = __add__
+        __lt__ = __le__ = __gt__ = __ge__ = __add__
+        __eq__: Pairwise  # type: ignore[assignment]
+        __ne__: Pairwise  # type: ignore[assignment]
 
     def __neg__(self) -> Expr:
         return self.neg()
@@ -198,19 +167,14 @@ class Operators:
 
         return by_numpy(name, *operands)
 
-    # An operation that only frames and the library have.
-
-    def bit_not(self) -> Expr:
-        """Returns the values with each bit inverted: ~x, which is -x - 1.
-
-        >>> run(~tensor([0, 5])).values
-        [-1, -6]
-        """
-        from .expressions import Expr
-
-        return Expr("bit_not", [self], dims=self.dims)  # type: ignore[list-item]
-
     def _beside(self, other: Any) -> Expr:
         from .tensors import beside
 
         return beside(other, self)  # type: ignore[arg-type]
+
+
+# A comparison has no operator for an expression on the right.
+for _it in OPERATIONS.values():
+    for _name, _made in (f"__{_it.operator}__", between), (f"__r{_it.operator}__", behind):
+        if _name in vars(int) and _name not in vars(Operators):
+            setattr(Operators, _name, _made(_it))

@@ -14,6 +14,7 @@ from .length import (
     too_many_nodes, too_many_values,
 )
 from .memory import Held
+from .operations import OPERATIONS
 from .rewriting.bindings import ALONG_AN_AXIS, FEWEST, Bindings, bindings_of, bound_by_depth
 from .rewriting.chains import GROUPED, balanced
 from .rewriting.texts import as_in_texts
@@ -25,12 +26,8 @@ from .values import whole
 # and nodes need version 3.
 FIRST_RANK, FIRST_WORKERS = 6, 64
 # The first version that has an operation, if it isn't 1. Texts don't have version 3.
-VERSIONS = dict.fromkeys("stride pad concat convolve".split(), 2)
-VERSIONS.update(
-    dict.fromkeys(
-        "floor_divide remainder bit_and bit_or bit_xor bit_not shift_left shift_right".split(), 3
-    )
-)
+VERSIONS = {it.name: it.version for it in OPERATIONS.values() if it.version > 1}
+VERSIONS.update(dict.fromkeys("stride pad concat convolve".split(), 2))
 VERSIONS.update(dict.fromkeys(ALONG_AN_AXIS, 3))
 LAST_OF_TEXTS = 2
 # The most operations inside one another, which leaves room in a text for its object and two arrays of

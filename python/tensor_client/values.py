@@ -14,7 +14,7 @@ except ImportError:
 
 LEAST, GREATEST = -(2**63), 2**63 - 1
 # Operations that give the same bits for signed and unsigned numbers.
-WRAPPING = frozenset("add sub mul eq ne bit_and bit_or bit_xor __and__ __or__ __xor__".split())
+WRAPPING = frozenset("add sub mul eq ne bit_and bit_or bit_xor".split())
 LISTS = (list, tuple, range, packed)
 # The types that lists contain as they are: values, and lists.
 PLAIN = {int, bool, list, tuple}

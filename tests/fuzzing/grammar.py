@@ -2,12 +2,13 @@
 it is to have, from the root down.
 
 A new operation is a call of Grammar with its name in MAKERS, or in MAKERS_OF for versions 2 and 3;
-on values a name in UNARY or BINARY instead, or in UNARY_OF or BINARY_OF for version 3, a reduction
-one in REDUCTIONS.
+one on values and a reduction are there by the tables of elementwise.py and operations.py.
 """
 
 import math
 
+from .elementwise import ON_INTEGERS, POINTWISE, named
+from .operations import REDUCTIONS
 from .rules import MOST_SIZE, VERSIONS
 
 # How many places a part has at most, mostly and now and then; how deep an expression goes.
@@ -25,13 +26,9 @@ LARGE_SIZES = [6, 8, 9, 11, 12, 16, 17, 24, 33, 40, 64, 100, 1_025, 2_049]
 WORKERS = [1, 1, 2, 2, 2, 3, 3, 4, 4, 8]
 BLOCKS = [1, 1, 2, 3, 4, 7, 16, 64, 1_048_576]
 
-UNARY = ["neg", "abs", "square", "not"]
-BINARY = ["add", "sub", "mul", "cwise_max", "cwise_min", "lt", "le", "eq", "ne", "gt", "ge"]
-BINARY += ["and", "or"]
-UNARY_OF = {1: UNARY, 2: UNARY, 3: UNARY + ["bit_not"] * 2}
-OF_BITS = ["bit_and", "bit_or", "bit_xor", "shift_left", "shift_right"]
-BINARY_OF = {1: BINARY, 2: BINARY, 3: BINARY + (["floor_divide", "remainder"] + OF_BITS) * 2}
-REDUCTIONS = ["sum", "prod", "maximum", "minimum", "all", "any"]
+UNARY, BINARY = named(POINTWISE, 1), named(POINTWISE, 2)
+UNARY_OF = {1: UNARY, 2: UNARY, 3: UNARY + named(ON_INTEGERS, 1) * 2}
+BINARY_OF = {1: BINARY, 2: BINARY, 3: BINARY + named(ON_INTEGERS, 2) * 2}
 # The calls of a grammar that make an operation, the more often the more operations they stand for.
 MAKERS = ["unary"] * 2 + ["binary"] * 5 + ["select", "constant", "broadcast", "slice", "shuffle"]
 MAKERS += ["reshape", "chip", "reverse", "chain"] + ["reduction"] * 4 + ["contraction"] * 3
@@ -252,7 +249,7 @@ class Grammar:
         below, axes = self.woven(dims, more)
         if not self.fits(below):
             return None
-        return [self.random.choice(REDUCTIONS), self.node(below, depth), axes]
+        return [self.random.choice([*REDUCTIONS]), self.node(below, depth), axes]
 
     def contraction(self, dims, depth):
         cut = self.random.randint(0, len(dims))

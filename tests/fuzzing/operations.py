@@ -2,14 +2,15 @@
 another, as docs/REQUEST.md has them.
 
 A new one is a line of OPERATIONS, of ADDED for version 2, or of ALONG_AN_AXIS for version 3; on
-values a line of POINTWISE instead, or of ON_INTEGERS for version 3, a reduction one of REDUCTIONS
-here and in grammar.py. A version is a line of OPERATIONS_OF and of VERSIONS in rules.py.
+values a row of elementwise.py instead, a reduction one of REDUCTIONS. A version is a line of
+OPERATIONS_OF and of VERSIONS in rules.py.
 """
 
 import itertools
 import math
 import operator
 
+from .elementwise import ON_INTEGERS, POINTWISE
 from .rules import VALUES, are_legal, need
 
 
@@ -62,11 +63,11 @@ def same_dims(_version, *dims):
     return dims[0]
 
 
-def pointwise(function):
+def pointwise(operands, function, _numpys):
     def work(dims, *tensors):
         return Tensor(dims, [wrap(function(*them)) for them in zip(*(it.values for it in tensors))])
 
-    return same_dims, work
+    return operands, [], same_dims, work
 
 
 def constant_dims(_version, dims, _value):
@@ -333,26 +334,6 @@ ADDED = {
     "concat": (2, ["size"], concat_dims, concat),
     "convolve": (2, ["sizes"], convolve_dims, convolve),
 }
-POINTWISE = {
-    "neg": (1, lambda x: -x),
-    "abs": (1, abs),
-    "square": (1, lambda x: x * x),
-    "not": (1, lambda x: x == 0),
-    "add": (2, lambda x, y: x + y),
-    "sub": (2, lambda x, y: x - y),
-    "mul": (2, lambda x, y: x * y),
-    "cwise_max": (2, max),
-    "cwise_min": (2, min),
-    "lt": (2, lambda x, y: x < y),
-    "le": (2, lambda x, y: x <= y),
-    "eq": (2, lambda x, y: x == y),
-    "ne": (2, lambda x, y: x != y),
-    "gt": (2, lambda x, y: x > y),
-    "ge": (2, lambda x, y: x >= y),
-    "and": (2, lambda x, y: x != 0 and y != 0),
-    "or": (2, lambda x, y: x != 0 or y != 0),
-    "select": (3, lambda c, x, y: x if c != 0 else y),
-}
 # Those that version 3 adds.
 ALONG_AN_AXIS = {
     "cumsum": (1, ["size"], *up_to_each(operator.add, 0)),
@@ -360,16 +341,6 @@ ALONG_AN_AXIS = {
     "argmax": (1, ["size"], *first_of(max)),
     "argmin": (1, ["size"], *first_of(min)),
     "take": (2, ["size"], take_dims, take),
-}
-ON_INTEGERS = {
-    "floor_divide": (2, lambda x, y: x // y if y else 0),
-    "remainder": (2, lambda x, y: x % y if y else 0),
-    "bit_and": (2, operator.and_),
-    "bit_or": (2, operator.or_),
-    "bit_xor": (2, operator.xor),
-    "bit_not": (1, operator.invert),
-    "shift_left": (2, lambda x, y: x << y if 0 <= y < 64 else 0),
-    "shift_right": (2, lambda x, y: x >> y if 0 <= y < 64 else -(x < 0)),
 }
 REDUCTIONS = {
     "sum": sum,
@@ -379,16 +350,11 @@ REDUCTIONS = {
     "all": lambda them: all(it != 0 for it in them),
     "any": lambda them: any(it != 0 for it in them),
 }
-for _name, (_operands, _function) in POINTWISE.items():
-    OPERATIONS[_name] = (_operands, [], *pointwise(_function))
-for _name, _combine in REDUCTIONS.items():
-    OPERATIONS[_name] = (1, ["sizes"], *reduction(_combine))
+OPERATIONS.update({name: pointwise(*it) for name, it in POINTWISE.items()})
+OPERATIONS.update({name: (1, ["sizes"], *reduction(it)) for name, it in REDUCTIONS.items()})
 OPERATIONS_OF = {1: OPERATIONS, 2: {**OPERATIONS, **ADDED}}
-OPERATIONS_OF[3] = {
-    **OPERATIONS_OF[2],
-    **ALONG_AN_AXIS,
-    **{name: (it[0], [], *pointwise(it[1])) for name, it in ON_INTEGERS.items()},
-}
+OPERATIONS_OF[3] = {**OPERATIONS_OF[2], **ALONG_AN_AXIS}
+OPERATIONS_OF[3].update({name: pointwise(*it) for name, it in ON_INTEGERS.items()})
 
 
 def cost_of(name, dims, operands, arguments):

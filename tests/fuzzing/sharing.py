@@ -6,13 +6,11 @@ Nothing here is shared with the library.
 
 import json
 
-from .operations import size
+from .operations import ALONG_AN_AXIS, REDUCTIONS, size
 from .reference import Walk
 from .rules import FRAME_VERSIONS, is_let
 
-COMBINING = frozenset(
-    "sum prod maximum minimum all any contract convolve cumsum cumprod argmax argmin take".split()
-)
+COMBINING = {*REDUCTIONS, *ALONG_AN_AXIS, "contract", "convolve"}
 MOVEMENTS = frozenset("broadcast slice shuffle reshape chip reverse stride".split())
 
 

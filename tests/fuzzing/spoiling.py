@@ -5,7 +5,8 @@ A new operation that has checks gets a function in BROKEN.
 
 import json
 
-from .rules import FRAME_VERSIONS, is_let
+from .operations import OPERATIONS_OF
+from .rules import FIELDS, FRAME_VERSIONS, is_let
 
 # What a part of a request may be replaced by.
 JUNK = [None, True, False, 0, 1, -1, 2, 3, 6, 7, 8, 9, 63, 64, 65, 127, 255, 256, 257]
@@ -20,10 +21,7 @@ JUNK_OF = {1: JUNK, 2: JUNK, 3: [*JUNK, *WIDEST, ["let"], ["let", "y", "a", "a"]
 # A tree of many nodes stands over an input of so few places.
 SMALL = {1: 8, 2: 8, 3: 2}
 ENDS = [0, 1, 5, 6, 7, 8, 9, 1_024, 1_048_576, 1_048_577, 2**63 - 1, 2**63]
-WORDS = ["neg", "add", "select", "constant", "broadcast", "slice", "shuffle", "reshape", "chip"]
-WORDS += ["reverse", "sum", "prod", "all", "contract", "div", "Add", "stride", "pad", "concat"]
-WORDS += ["convolve", "bit_not", "remainder", "cumsum", "argmin", "take", "version", "workers"]
-WORDS += ["block", "inputs", "expr", "dims", "data", "x"]
+WORDS = [*OPERATIONS_OF[3], *sorted(FIELDS), "div", "Add", "dims", "data", "x"]
 ENDS_OF = {1: ENDS, 2: ENDS, 3: [*ENDS, *WIDEST]}
 WORDS_OF = {1: WORDS, 2: WORDS, 3: [*WORDS, "let", "y", "y0"]}
 ODD_NUMBERS = ["1.0", "1e0", "-0", "0.0", "1E2", "10e-1", "18446744073709551616", "1e400"]

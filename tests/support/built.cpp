@@ -19,7 +19,7 @@ int main()
     const auto sums = a.sum(1), product = a.matmul(c), less = product * product - product;
     const auto times = eight(a, b);
     const Expr all[] = {
-        -a, !a, ~a, a.abs(), a.square(),
+        -a, !a, ~a, a.bit_count(), a.abs(), a.square(),
         a + b, a - b, a * b, a / b, a % b,
         a < b, a <= b, a == b, a != b, a > b, a >= b,
         a && b, a || b, a & b, a | b, a ^ b, a << b, a >> b,

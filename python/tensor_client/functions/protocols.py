@@ -8,14 +8,12 @@ from typing import Any, Dict, Sequence
 
 from .. import functions
 from ..expressions import Expr
+from ..operations import OPERATIONS
 from ..tensors import Tensor
 from .delegated import as_arrays
 
 # The functions that an operator with an array on the left calls.
-OPERATORS = frozenset(
-    "add subtract multiply matmul power less less_equal equal not_equal greater greater_equal "
-    "bitwise_and bitwise_or bitwise_xor left_shift right_shift floor_divide remainder divmod".split()
-)
+OPERATORS = {"matmul", "power", "divmod"}.union(it.numpy for it in OPERATIONS.values() if it.operator)
 
 
 def of_ufunc(function: Any, method: str, inputs: Sequence[Any], more: Dict[str, Any]) -> Any:

@@ -8,7 +8,7 @@ from .. import rules
 from ..expressions import Expr
 from ..faults import ShapeMismatch
 from ..memory import LARGE
-from ..operators import told
+from ..operations import told
 from ..rules import Dims, alike, spread
 from ..tensors import an_expr
 from ..values import numbers_of, whole

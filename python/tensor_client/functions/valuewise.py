@@ -8,8 +8,8 @@ from typing import Any, Callable, Dict, NoReturn, Protocol, Tuple
 
 from ..expressions import Expr
 from ..memory import INT64
-from ..methods import written_nowhere
-from ..operators import told
+from ..methods import COMBINED, written_nowhere
+from ..operations import OPERATIONS, Operation, told
 from ..tensors import an_expr
 from ..values import WRAPPING, as_bits, numpy, whole
 from .common import as_dtype
@@ -17,7 +17,7 @@ from .delegated import by_numpy, over_lines
 from .scans import cumprod, cumsum
 
 __all__ = [
-    "abs", "absolute", "add", "around", "astype", "bitwise_and", "bitwise_invert",
+    "abs", "absolute", "add", "around", "astype", "bitwise_and", "bitwise_count", "bitwise_invert",
     "bitwise_left_shift", "bitwise_not", "bitwise_or", "bitwise_right_shift", "bitwise_xor", "clip",
     "conj", "conjugate", "divmod", "equal", "floor_divide", "fmax", "fmin", "greater",
     "greater_equal", "invert", "left_shift", "less", "less_equal", "logical_and", "logical_not",
@@ -26,12 +26,13 @@ __all__ = [
     "square", "subtract",
 ]
 
-
+# By name, the rows of functions. The last two are Python's operators, and no operations of the request.
+ROWS = {it.numpy: it for it in OPERATIONS.values()}
+ROWS["positive"] = Operation("positive", "pos", 1, "the values as they are", [1, -2], [1, -2])
+ROWS["power"] = Operation("power", "pow", 1, "the powers: x**y", [2, 3], 5, [32, 243])
 # The reductions that combine values by a function of two.
-REDUCED = {
-    "add": "sum", "multiply": "prod", "maximum": "max", "minimum": "min", "logical_and": "all",
-    "logical_or": "any",
-}
+REDUCED = {OPERATIONS[it].numpy: reduction for reduction, it in COMBINED.items()}
+REDUCED.update(logical_and="all", logical_or="any")
 ACCUMULATED = {"add": cumsum, "multiply": cumprod}
 LISTED: Dict[str, Callable[[int, int], int]] = {"maximum": builtins.max, "minimum": builtins.min}
 
@@ -50,24 +51,26 @@ class OfTwo(Protocol):
     def reduceat(self, array: Any, indices: Any, axis: int = 0) -> Expr: ...
 
 
-def of_one(name: str, method: str, what: str, example: str, wanted: str) -> Callable[..., Expr]:
-    """Returns an elementwise function of one value, by a method of expressions."""
+def of_one(name: str) -> Callable[..., Expr]:
+    """Returns an elementwise function of one value, by its row."""
+    it = ROWS[name]
 
     def function(x: Any, out: None = None) -> Any:
         written_nowhere(out)
-        return getattr(an_expr(x), method)()
+        return getattr(an_expr(x), it.called)()
 
-    found: Callable[..., Expr] = told(function, name, what, f"{name}({example})", wanted)
+    found: Callable[..., Expr] = told(function, name, it.what, f"{name}({it.operands[0]})", it.wanted)
     return found
 
 
-def of_two(name: str, method: str, what: str, example: str, wanted: str) -> OfTwo:
-    """Returns an elementwise function of two values, by a method of expressions. It has functions of its
-    own: `outer` of each two values, `reduce` along an axis, `accumulate` up to each place, `reduceat`."""
+def of_two(name: str) -> OfTwo:
+    """Returns an elementwise function of two values, by its row. It has functions of its own: `outer` of
+    each two values, `reduce` along an axis, `accumulate` up to each place, `reduceat`."""
+    it = ROWS[name]
 
     def function(x1: Any, x2: Any, out: None = None) -> Any:
         written_nowhere(out)
-        return getattr(an_expr(as_bits(x1) if method in WRAPPING else x1), method)(x2)
+        return getattr(an_expr(as_bits(x1) if it.name in WRAPPING else x1), it.called)(x2)
 
     def outer(A: Any, B: Any) -> Any:
         left, right = an_expr(A), an_expr(B)
@@ -91,61 +94,23 @@ def of_two(name: str, method: str, what: str, example: str, wanted: str) -> OfTw
     def refused(*_: Any, **more: Any) -> NoReturn:
         raise TypeError("a tensor isn't written into: x.at[i].add(v) returns one with other values")
 
-    made = told(function, name, what, f"{name}({example})", wanted)
+    example = "{}({}, {})".format(name, *it.operands)
+    made = told(function, name, it.what, example, it.wanted)
     made.outer, made.reduce, made.accumulate = outer, reduce, accumulate
     made.reduceat, made.at = reduceat, refused
     found: OfTwo = made
     return found
 
 
-positive = of_one("positive", "__pos__", "Returns the values as they are.", "[1, -2]", "[1, -2]")
-negative = of_one("negative", "neg", "Returns the negated values: -x.", "[1, -2]", "[-1, 2]")
-absolute = of_one("absolute", "abs", "Returns the absolute values.", "[1, -2]", "[1, 2]")
-square = of_one("square", "square", "Returns each value squared.", "[1, -2]", "[1, 4]")
-logical_not = of_one("logical_not", "not_", "1 where a value is 0, else 0.", "[0, 5]", "[1, 0]")
-invert = of_one(
-    "invert", "__invert__", "Returns ~x: each bit, or each truth value, inverted.", "[0, 5]", "[-1, -6]"
-)
-
-add = of_two("add", "add", "Returns the sums: x + y.", "[1, 2], 3", "[4, 5]")
-subtract = of_two("subtract", "sub", "Returns the differences: x - y.", "[1, 2], 3", "[-2, -1]")
-multiply = of_two("multiply", "mul", "Returns the products: x * y.", "[1, 2], 3", "[3, 6]")
-maximum = of_two(
-    "maximum", "cwise_max",
-    "Returns the greater of two values. The method x.maximum() is the greatest of all.", "[1, 5], 3",
-    "[3, 5]",
-)
-minimum = of_two(
-    "minimum", "cwise_min",
-    "Returns the lesser of two values. The method x.minimum() is the least of all.", "[1, 5], [3, 4]",
-    "[1, 4]",
-)
-less = of_two("less", "lt", "1 where x < y, else 0.", "[1, 2], 2", "[1, 0]")
-less_equal = of_two("less_equal", "le", "1 where x <= y, else 0.", "[2, 3], 2", "[1, 0]")
-equal = of_two("equal", "eq", "1 where x == y, else 0.", "[1, 2], 2", "[0, 1]")
-not_equal = of_two("not_equal", "ne", "1 where x != y, else 0.", "[1, 2], 2", "[1, 0]")
-greater = of_two("greater", "gt", "1 where x > y, else 0.", "[2, 3], 2", "[0, 1]")
-greater_equal = of_two("greater_equal", "ge", "1 where x >= y, else 0.", "[1, 2], 2", "[0, 1]")
-logical_and = of_two("logical_and", "and_", "1 where neither value is 0, else 0.", "[0, 5], 7", "[0, 1]")
-logical_or = of_two("logical_or", "or_", "1 where some value isn't 0, else 0.", "[0, 5], 0", "[0, 1]")
-bitwise_and = of_two(
-    "bitwise_and", "__and__", "Returns the bits that both have: x & y.", "[12, 5], 10", "[8, 0]"
-)
-bitwise_or = of_two(
-    "bitwise_or", "__or__", "Returns the bits that either has: x | y.", "[12, 5], 10", "[14, 15]"
-)
-bitwise_xor = of_two(
-    "bitwise_xor", "__xor__", "Returns the bits that only one has: x ^ y.", "[12, 5], 10", "[6, 15]"
-)
-left_shift = of_two("left_shift", "__lshift__", "Returns x << n: x * 2**n.", "[1, -2], 3", "[8, -16]")
-right_shift = of_two("right_shift", "__rshift__", "Returns x >> n: x // 2**n.", "[9, -9], 1", "[4, -5]")
-floor_divide = of_two(
-    "floor_divide", "floor_divide", "Returns x // y, rounded down.", "[7, -7], 2", "[3, -4]"
-)
-remainder = of_two(
-    "remainder", "remainder", "Returns x % y, with the sign of y.", "[7, -7], 2", "[1, 1]"
-)
-power = of_two("power", "__pow__", "Returns the powers: x**y.", "[2, 3], 5", "[32, 243]")
+positive, negative, absolute, square = map(of_one, "positive negative absolute square".split())
+logical_not, invert, bitwise_count = map(of_one, "logical_not invert bitwise_count".split())
+add, subtract, multiply, power = map(of_two, "add subtract multiply power".split())
+maximum, minimum, remainder = map(of_two, "maximum minimum remainder".split())
+less, less_equal, equal, not_equal = map(of_two, "less less_equal equal not_equal".split())
+greater, greater_equal, floor_divide = map(of_two, "greater greater_equal floor_divide".split())
+logical_and, logical_or, left_shift = map(of_two, "logical_and logical_or left_shift".split())
+bitwise_and, bitwise_or, bitwise_xor = map(of_two, "bitwise_and bitwise_or bitwise_xor".split())
+right_shift = of_two("right_shift")
 
 # By numpy's other names.
 abs, pow, bitwise_not, bitwise_invert = absolute, power, invert, invert

@@ -10,8 +10,7 @@ from ..expressions import Expr
 SUMS = frozenset(("add", "sub"))
 # Operations whose chains can be grouped in any way, and the operations in such a chain. The values
 # stay the same modulo 2**64.
-GROUPED = {it: frozenset((it,)) for it in "mul cwise_max cwise_min and or".split()}
-GROUPED.update({it: frozenset((it,)) for it in "bit_and bit_or bit_xor".split()})
+GROUPED = {it: frozenset((it,)) for it in "mul cwise_max cwise_min and or bit_and bit_or bit_xor".split()}
 GROUPED.update(dict.fromkeys(SUMS, SUMS))
 
 

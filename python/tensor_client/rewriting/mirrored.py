@@ -6,15 +6,11 @@ from __future__ import annotations
 from typing import Any, Callable, Dict, List, Optional, Sequence
 
 from ..expressions import Expr
+from ..operations import OPERATIONS
 from ..rules import Dims
 from ..tensors import Tensor
 from .bindings import ALONG_AN_AXIS, in_order
 
-# Elementwise operations, for which the order of the axes has no meaning.
-VALUEWISE = frozenset(
-    "neg abs square not constant add sub mul cwise_max cwise_min lt le eq ne gt ge and or select "
-    "floor_divide remainder bit_and bit_or bit_xor bit_not shift_left shift_right".split()
-)
 REDUCTIONS = "sum prod maximum minimum all any".split()
 Mirror = Callable[[Expr, List[Expr]], Expr]
 
@@ -134,7 +130,8 @@ def in_other_dims(expr: Expr, operands: List[Expr]) -> Expr:
 
 
 MIRRORS: Dict[str, Mirror] = {
-    **dict.fromkeys(VALUEWISE, same),
+    # The order of the axes has no meaning for elementwise operations.
+    **dict.fromkeys(["constant", "select", *OPERATIONS], same),
     **dict.fromkeys("broadcast slice reverse stride pad".split(), lists_reversed),
     **dict.fromkeys(REDUCTIONS, reduced),
     **dict.fromkeys(ALONG_AN_AXIS, of_one_axis),
