@@ -48,8 +48,8 @@ extern "C" {
 #endif
 
 /* The version of the library, as the file VERSION has it; and as one number, 3002001 for 3.2.1. */
-#define TENSOR_VERSION "4.0.0"
-#define TENSOR_VERSION_NUMBER 4000000
+#define TENSOR_VERSION "4.1.0"
+#define TENSOR_VERSION_NUMBER 4001000
 
 /* The most values of a tensor of version 3, and so of an answer. In versions 1 and 2 a tensor has at
    most 1,048,576 values. */

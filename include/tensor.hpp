@@ -348,6 +348,7 @@ public:
 
     Expr abs() const { return each("abs", {*this}); }
     Expr square() const { return each("square", {*this}); }
+    Expr bit_count() const { return each("bit_count", {*this}); }
     Expr constant(std::int64_t value) const
     {
         const Expr beside(input() ? input() : link_);

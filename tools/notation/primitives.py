@@ -29,6 +29,8 @@ WORDS = {
     "Rattle.core.specs.Ordering": "match_ordering = {{'Less': lambda: {1}, 'Equal': lambda: {2}, "
     "'Greater': lambda: {3}}}[{0}[0]]()",
     "lib.Chars": "codes = tuple(map(ord, {0}))",
+    # As it is defined, but without as many steps as the number.
+    "lib.Count": "ones = bin({0}).count('1')",
     # Floats are only tested for a nearest one: a format is the least number without it.
     "lib.Ieee": "binary64 = 2**1024 - 2**970; "
     "round = ('fin', {1}, None, None) if {2} < {0} * {3} else ('inf', {1})",

@@ -64,11 +64,20 @@ macro_rules! methods {
     )*};
 }
 
+/// Methods that take nothing more.
+macro_rules! alone {
+    ($($name:ident)*) => {$(
+        pub fn $name(&self) -> Expr {
+            self.each(stringify!($name), &[])
+        }
+    )*};
+}
+
 /// Methods that take what stands beside the expression.
 macro_rules! pairwise {
-    ($($name:ident $operation:literal)*) => {$(
+    ($($name:ident)*) => {$(
         pub fn $name(&self, other: impl Operand) -> Expr {
-            self.each($operation, &[other.beside(self)])
+            self.each(stringify!($name), &[other.beside(self)])
         }
     )*};
 }
@@ -91,16 +100,8 @@ impl Expr {
     methods!(false, flags: &[bool], reverse);
     methods!(true, axes: &[u64], sum prod maximum minimum all any);
     methods!(true, axis: u64, cumsum cumprod argmax argmin);
-    pairwise!(lt "lt" le "le" eq "eq" ne "ne" gt "gt" ge "ge" and "and" or "or");
-    pairwise!(cwise_max "cwise_max" cwise_min "cwise_min");
-
-    pub fn abs(&self) -> Expr {
-        self.each("abs", &[])
-    }
-
-    pub fn square(&self) -> Expr {
-        self.each("square", &[])
-    }
+    alone!(abs square bit_count);
+    pairwise!(lt le eq ne gt ge and or cwise_max cwise_min);
 
     /// 1 where a value is 0, else 0. The operator `!` turns each bit.
     pub fn is_zero(&self) -> Expr {

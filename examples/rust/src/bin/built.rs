@@ -15,7 +15,7 @@ fn eight(a: &Expr, b: &Expr) -> Expr {
 
 fn place_by_place(a: &Expr, b: &Expr, c: &Expr) -> Vec<Expr> {
     vec![
-        -a, a.is_zero(), !a, a.abs(), a.square(),
+        -a, a.is_zero(), !a, a.bit_count(), a.abs(), a.square(),
         a + b, a - b, a * b, a / b, a % b,
         a.lt(b), a.le(b), a.eq(b), a.ne(b), a.gt(b), a.ge(b),
         a.and(b), a.or(b), a & b, a | b, a ^ b, a << b, a >> b,
