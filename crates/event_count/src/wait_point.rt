@@ -1,5 +1,5 @@
 //! `WaitPoint`: the trait of what the workers of a pool wait on. `EventCount` implements it here,
-//! `LockedCount` in its own module, and `RowPoint` in waking_rows. worker_pool calls it.
+//! and `LockedCount` in its own module. worker_pool calls it.
 ghost use Rattle.std.specs.Prelude.{◌≡◌, ℕ, ◌+◌, ◌<◌, ◌↔◌, List, [], length, map, All};
 ghost use Rattle.std.specs.Prelude.{IfOk, IsErrOf, vec_len};
 ghost use Rattle.std.specs.List.{range_with_len};

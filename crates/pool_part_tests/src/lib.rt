@@ -7,6 +7,8 @@ mod barriers;
 #[cfg(test)]
 mod faults;
 #[cfg(test)]
+mod one_count;
+#[cfg(test)]
 mod pairs;
 #[cfg(test)]
 mod rows;

@@ -1,6 +1,6 @@
-//! Tests of rows that threads share, through the trait `Rows`: rows with a lock, rows of slots, and
-//! rows that wake workers. The expected results are written down, or come from a row of one thread
-//! (`Deque`), which is proved to be a list. A new kind of rows gets a line at the end.
+//! Tests of rows that threads share, through the trait `Rows`: rows with a lock, and rows of slots.
+//! The expected results are written down, or come from a row of one thread (`Deque`), which is
+//! proved to be a list. A new kind of rows gets a line at the end.
 ghost use Rattle.std.specs.Prelude.{◌≡◌, ◌<◌, IsTrue};
 
 use crate::told::expect;
@@ -11,7 +11,6 @@ use run_queue::{Deque, LockedRows, Rows, SlotRows};
 use std::alloc::Global;
 use std::process::Abort;
 use std::sync::Wait;
-use waking_rows::WakingRows;
 
 /// A call on the one row, and its expected result.
 #[derive(Clone, Copy)]
@@ -212,5 +211,4 @@ fn expect_rows<Q: Rows<u32, Global>, R: Wait + Abort>(rt: &R, alloc: Global) {
 fn rows_with_a_lock_and_of_slots(rt: HostRuntime) {
     expect_rows::<LockedRows<u32>, HostRuntime>(&rt, rt.alloc());
     expect_rows::<SlotRows<u32>, HostRuntime>(&rt, rt.alloc());
-    expect_rows::<WakingRows<u32>, HostRuntime>(&rt, rt.alloc());
 }

@@ -1,5 +1,5 @@
 //! `Rows`: the trait of rows of jobs that threads share, with their seats and their account.
-//! `SlotRows`, `LockedRows` and the rows of waking_rows implement it. worker_pool calls it.
+//! `SlotRows` and `LockedRows` implement it. worker_pool calls it.
 
 ghost use Rattle.std.specs.Prelude.{◌≡◌, ℕ, ◌+◌, ◌<◌, ◌≤◌, ◌↔◌, List, [], ◌++◌, length, map, All};
 ghost use Rattle.std.specs.Prelude.{IfOk, IfErr, IsErrOf, option_to_list};

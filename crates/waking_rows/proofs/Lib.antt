@@ -1,4 +1,5 @@
 mod Jobs
 mod Lists
 mod Opened
+mod Passes
 mod Puts

@@ -51,14 +51,6 @@ module _ (k : RowSizes) where
       ∙ (ap (take m) cards ∙ take-map-range_with_len (opening_card k) 0 total m few))
       ∙ opened_cards (range_with_len 0 m)))
 
-  -- and so are all
-  pub all_cards : (numbers : List ℕ) (all : List Seat) (list : List RowWaiter)
-      → map card_of all ≡ map (opening_card k) numbers
-      → map (λ waiter. card_of waiter.seat) list ≡ map (λ seat. banking (card_of seat)) all
-      → map (λ waiter. card_of waiter.seat) list ≡ map (waiter_card k) numbers
-  all_cards numbers all list cards is =
-      is ∙ (banked_cards all ∙ (ap (map banking) cards ∙ opened_cards numbers))
-
   -- they are numbered from 0 on
   pub waiter_numbers : (list : List RowWaiter) (numbers : List ℕ)
       → map (λ waiter. card_of waiter.seat) list ≡ map (waiter_card k) numbers

@@ -1,6 +1,6 @@
 -- The parts of `WakingRows` and of their seats that contracts name.
-use Rattle.std.specs.Prelude.{◌≡◌, ◌≢◌, ℕ, ◌+◌, ◌*◌, ◌/◌, ◌<◌, ◌≤◌, ◌==◌, ◌↔◌, List, Option, Some}
-use Rattle.std.specs.Prelude.{None, Bool, true, false, Result, MatchResult, MatchBool}
+use Rattle.std.specs.Prelude.{◌≡◌, ◌≢◌, ℕ, ◌+◌, ◌*◌, ◌/◌, ◌<◌, ◌==◌, ◌↔◌, List, Bool, true, false}
+use Rattle.std.specs.Prelude.{Result, MatchResult, MatchBool}
 use Rattle.std.specs.Arc.{arc_value}
 use Rattle.event_word.specs.Step.{row_limit}
 use Rattle.event_count.specs.Seated.{TableId}
@@ -8,16 +8,15 @@ use Rattle.event_count.specs.declared.view.BankBook.{BankBook}
 use Rattle.event_count.specs.declared.view.Card.{Card}
 use Rattle.event_count.specs.Kinds.{with_rows}
 use Rattle.event_count.specs.Waits.{RestsOnNotify}
-use Rattle.event_count.specs.Rows.Gains.{measuring, publishing, redeeming}
+use Rattle.event_count.specs.Rows.Gains.{publishing, redeeming}
 use Rattle.event_count.specs.Seats.{card_of, seat_id}
 use Rattle.event_count.specs.Rows.Seats.{row_count_id}
 use Rattle.run_queue.specs.SlotSeats.{rows_id, row_count_of, seat_count_of, table_of, number_in}
 use Rattle.run_queue.specs.SlotSeats.{puts_of, takes_of, front_of, claim_of, claims_of, ClaimedOnce}
 use Rattle.run_queue.specs.Elements.{empty_word}
-use Rattle.run_queue.specs.Limits.{most_jobs}
 use Rattle.waking_rows.specs.declared.waking_rows.WakingRows.{WakingRows}
 use Rattle.waking_rows.specs.declared.waking_rows.WakingSeat.{WakingSeat}
-use Rattle.waking_rows.specs.Credits.{kept, GoesToBank, funds_of, IsFunded}
+use Rattle.waking_rows.specs.Credits.{GoesToBank, funds_of, IsFunded}
 use Rattle.waking_rows.specs.Tickets.{jobs_in}
 
 -- the credits with which each seat begins, if `on_one_count` opens rows for this many workers: an
@@ -96,18 +95,6 @@ module _ {J : Type 0} where
   pub record IsSameSeat (before after : WakingSeat J) : Type 0 where
     pub home : home_of after ≡ home_of before
     pub number : number_by after ≡ number_by before
-
-  -- the seat looked at the length of this row at the count; the answer is this length, but at most
-  -- the most jobs of a row
-  abbrev pub LooksAtLength : WakingSeat J → WakingSeat J → ℕ → ℕ → Type 0
-  LooksAtLength before after row answer = (length : ℕ)
-      × (card_of after.seat ≡ measuring (card_of before.seat) row length)
-      × (length ≤ most_jobs → answer ≡ length) × (most_jobs < length → answer ≡ most_jobs)
-
-  -- the credits after a take: the seat has the job's credit, and its surplus is in the bank
-  abbrev pub credits_after : Option J → ℕ → ℕ
-  credits_after (Some job) credits = kept (credits + 1)
-  credits_after None credits = credits
 
   -- the credits after a put: an accepted job takes a credit, and a refused job takes none
   abbrev pub PaysIfOk : Result (Unit {0}) J → ℕ → ℕ → Type 0

@@ -8,9 +8,11 @@
 //!
 //!     rows.push_front(rt, &mut seat, job)       rows.pop_front(&mut seat)
 //!     rows.push_back(rt, &mut seat, row, job)   rows.pop_back(rt, &mut seat, row)
-//!     point.enter(rt, &mut waiter)              then point.sleep(rt, &mut waiter), or leave
+//!     point.rest(rt, &mut waiter)               point.stop(rt, &mut waiter)
 //!
-//! A pool takes them as its `Rows` and its `WaitPoint`.
+//! A thread that finds no job rests. A rest sleeps until the thread is woken, or returns a row with
+//! jobs, or returns `Ended`: the count was stopped, and each row was then found empty. In the end
+//! `rows.close` returns the jobs that are left.
 //!
 //! # The two tables
 //!
@@ -29,8 +31,11 @@
 //! and notifies one waiter. If the slot is taken, it gives the ticket back, which lowers the
 //! length, and still notifies. A take gets the job and the ticket out of the slot, and gives the
 //! ticket back for a credit. If the seat then has more than 1,024 credits, it puts all but 512 into
-//! the bank. A sleep passes the flag and then each row. It commits if it passed all of them, and
-//! otherwise cancels. README.md has the picture.
+//! the bank.
+//!
+//! A rest is a prewait and then a look at the flag and at each row, up to a row with jobs. It
+//! commits if it has passed all of them, and otherwise cancels. If it finds the count stopped, it
+//! looks at the rows all the same, because jobs may be left in them. README.md has the picture.
 //!
 //! # Why no job is slept on
 //!
@@ -39,8 +44,8 @@
 //! is to notify, runs, is about to look at the row, or is being woken. No seat keeps a publish to
 //! itself: by its type it has nothing to notify between two calls.
 //!
-//! worker_pool opens its pools over this pair (`with_counted_root`). A change to the order of a
-//! put, or to what a sleep passes, is a change to the laws here and to event_count's.
+//! worker_pool opens its pools over this pair. A change to the order of a put, or to what a rest
+//! passes before it sleeps, is a change to the laws here and to event_count's.
 #![tactic(auto)]
 
 mod laws;
@@ -51,6 +56,6 @@ mod waking_rows;
 
 pub use laws::{jobs_are_counted, jobs_are_not_slept_on};
 pub use opening::{OnOneCount, on_one_count};
-pub use row_point::{RowPoint, RowWaiter};
+pub use row_point::{Rested, RowPoint, RowWaiter};
 pub use ticketed::{OfCount, Ticketed};
 pub use waking_rows::{WakingRows, WakingSeat};

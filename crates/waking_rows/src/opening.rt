@@ -1,7 +1,6 @@
-//! How `WakingRows` and `RowPoint` are opened, over one count or apart. worker_pool's
-//! `with_counted_root` relies on the sizes and credits that `on_one_count` promises.
-ghost use Rattle.std.specs.Prelude.{◌≡◌, ℕ, ◌+◌, ◌/◌, ◌<◌, ◌≤◌, ◌↔◌, [], length, map, All, IfOk};
-ghost use Rattle.std.specs.Prelude.{IsErrOf, vec_len};
+//! How `WakingRows` and a `RowPoint` are opened over one count. worker_pool relies on the sizes and
+//! credits that `on_one_count` promises.
+ghost use Rattle.std.specs.Prelude.{◌≡◌, ℕ, ◌+◌, ◌/◌, ◌<◌, ◌≤◌, [], length, map, All, IfOk, vec_len};
 ghost use Rattle.std.specs.Arc.{arc_value};
 ghost use Rattle.std.specs.List.{range_with_len};
 ghost use Rattle.event_word.specs.Step.{row_limit};
@@ -11,7 +10,7 @@ ghost use Rattle.event_count.specs.Rows.Seats.{row_count_id, row_sizes_of, IsSil
 ghost use Rattle.run_queue.specs.Limits.{most_rows};
 ghost use Rattle.run_queue.specs.SlotSeats.{number_in, puts_of, takes_of, table_of};
 ghost use Rattle.waking_rows.specs.Credits.{HasBanked};
-ghost use Rattle.waking_rows.specs.Points.{count_at, waiters_at};
+ghost use Rattle.waking_rows.specs.Points.{count_at, waiters_at, rows_at};
 ghost use Rattle.waking_rows.specs.Seats.{place_of, rows_in, seats_in, home_of, number_by};
 ghost use Rattle.waking_rows.specs.Seats.{puts_by, takes_by, credits_by, first_credits};
 
@@ -19,7 +18,7 @@ use crate::row_point::{RowPoint, RowWaiter, waiters_of};
 use crate::ticketed::{OfCount, Ticketed};
 use crate::waking_rows::{WakingRows, WakingSeat};
 use event_count::{MOST_CREDITS, RowCount, RowSizes, Seat};
-use run_queue::{MOST_ROWS, ROW_JOBS, Reserve, RowsFault, SlotRows, SlotSeat};
+use run_queue::{ROW_JOBS, Reserve, SlotRows, SlotSeat};
 use std::alloc::{AllocError, Allocator};
 use std::snapshot::Snapshot;
 use std::sync::Arc;
@@ -67,7 +66,7 @@ pub fn on_one_count<J: Drop, A: Allocator + Clone>(
     ensures banked { IfOk result (λ made. All (λ s. HasBanked (card_of s.seat)
         (first_credits workers)) made.waiters.items) }
     ensures waiters { IfOk result (λ made. waiters_at made.point ≡ workers) }
-    ensures seats { IfOk result (λ made. made.point.seats ≡ workers + 1) }
+    ensures point_rows { IfOk result (λ made. rows_at made.point ≡ workers) }
     ensures all { IfOk result (λ made. length made.waiters.items ≡ workers + 1) }
     ensures numbers { IfOk result (λ made. map (λ s. (card_of s.seat).number) made.waiters.items
         ≡ range_with_len 0 (workers + 1)) }
@@ -97,7 +96,7 @@ pub fn on_one_count<J: Drop, A: Allocator + Clone>(
     };
     let point = RowPoint {
         count: Arc::try_clone(&count)?,
-        seats: u32::from(workers) + 1,
+        rows: workers,
     };
     let Ok((rows, row_seats)) = rows_over(alloc, count, others, workers, 1) else {
         return Err(AllocError);
@@ -108,43 +107,6 @@ pub fn on_one_count<J: Drop, A: Allocator + Clone>(
         point,
         waiters,
     })
-}
-
-/// Opens rows over a count of their own, at which nobody waits.
-pub(crate) fn rows_alone<J: Drop, A: Allocator + Clone>(
-    alloc: A,
-    rows: u16,
-    outsiders: u16,
-) -> Result<(WakingRows<J, A>, Vec<WakingSeat<J>, A>), RowsFault>
-    ensures too_many { IsErrOf result RowsFault.TooManyRows ↔ (most_rows < rows) }
-    ensures rows { IfOk result (λ r. rows_in r.0 ≡ rows) }
-    ensures seats { IfOk result (λ r. seats_in r.0 ≡ rows + outsiders) }
-    ensures numbers { IfOk result (λ r.
-        map number_by r.1.items ≡ range_with_len 0 (rows + outsiders)) }
-    ensures ours { IfOk result (λ r. All (λ s. home_of s ≡ place_of r.0) r.1.items) }
-    ensures accounts { IfOk result (λ r.
-        All (λ s. (puts_by s ≡ []) × (takes_by s ≡ [])) r.1.items) }
-{
-    if rows > MOST_ROWS {
-        return Err(RowsFault::TooManyRows);
-    }
-    // A count has at least one row and one waiter.
-    let some = rows.max(1);
-    let sizes = RowSizes {
-        waiters: some,
-        notifiers: outsiders,
-        first: 0,
-        rows: some,
-        credits: credits_each(u32::from(some) + u32::from(outsiders)),
-    };
-    let Ok((count, mut seats)) = RowCount::new(alloc.clone()?, &sizes) else {
-        return Err(RowsFault::NoMemory);
-    };
-    seats.truncate(usize::from(rows) + usize::from(outsiders));
-    let Ok(count) = Arc::new(alloc.clone()?, count) else {
-        return Err(RowsFault::NoMemory);
-    };
-    Ok(rows_over(&alloc, count, seats, rows, outsiders)?)
 }
 
 /// Opens rows over a count, whose seats `seats` become the seats of the rows.

@@ -13,7 +13,6 @@ use run_queue::{Reserve, SlotRows, SlotSeat};
 use std::alloc::{Allocator, Global};
 use std::sync::Arc;
 
-mod as_rows;
 mod calls;
 mod credits;
 mod ending;

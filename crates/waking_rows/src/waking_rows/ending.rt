@@ -1,5 +1,5 @@
-//! The end of `WakingRows`: what is left in their slots. The account that `drain_all` promises
-//! comes from `SlotRows::close`.
+//! The end of `WakingRows`: what is left in their slots. The account that `close` promises comes
+//! from `SlotRows::close`.
 ghost use Rattle.std.specs.Prelude.{◌≡◌, ℕ, ◌≤◌, [], All, length, vec_len, vec_capacity};
 ghost use Rattle.std.specs.List.{flat_map};
 ghost use Rattle.run_queue.specs.Account.{AccountsFor};
@@ -16,7 +16,7 @@ use std::alloc::Allocator;
 impl<J: Drop, A: Allocator + Clone> WakingRows<J, A> {
     /// Ends the rows, given all their seats, and returns the jobs that are left. Takes the seats
     /// out of the list.
-    pub(crate) fn close_with(self, seats: &mut Vec<WakingSeat<J>, A>) -> Vec<J, A>
+    pub fn close(self, seats: &mut Vec<WakingSeat<J>, A>) -> Vec<J, A>
         requires ours { All (λ seat. home_of seat ≡ place_of self) seats.old.items }
         requires all { length seats.old.items ≡ seats_in self }
         ensures account { AccountsFor puts_by takes_by seats.old.items result.items }

@@ -1,4 +1,4 @@
-use Rattle.std.proofs.Common.{rules, ◌≡◌, ◌∙◌, ap, arith, sym}
+use Rattle.std.proofs.Common.{rules, ◌≡◌, arith}
 use Rattle.run_queue.specs.SlotSeats.{table_of, puts_of, takes_of}
 use Rattle.waking_rows.specs.Seats.{puts_by, takes_by}
 use Rattle.waking_rows.proofs.Lists.{All-front, All-last, All-snoc, length-snoc, total_flat, total_map}

@@ -1,11 +1,11 @@
-use Rattle.std.proofs.Common.{rules, ◌≡◌, ◌∙◌, ap, arith}
+use Rattle.std.proofs.Common.{◌≡◌, ap, arith}
 use Rattle.std.specs.List.{flat_map}
 use Rattle.std.proofs.lemmas.List.Elements.{All-weaker}
 use Rattle.run_queue.specs.Bag.{total}
-use Rattle.run_queue.specs.SlotSeats.{table_of, rows_id, takes_of}
+use Rattle.run_queue.specs.SlotSeats.{rows_id, takes_of}
 use Rattle.waking_rows.specs.Seats.{home_of, place_of, takes_by}
 use Rattle.waking_rows.proofs.Lists.{total_append, total_map}
-use Rattle.waking_rows.proofs.waking_rows.WakingRows.close_with.Goals as goal
+use Rattle.waking_rows.proofs.waking_rows.WakingRows.close.Goals as goal
 
 pub close-items-requires-clause-ours : goal.close-items-requires-clause-ours
 close-items-requires-clause-ours g c =
