@@ -5,14 +5,15 @@ for memory refused, or with the Nth and all later ones; and so with its starts o
 print its own line, or `error 15 NoMemory` with status 1 where memory was refused, and nothing on
 standard error, and to end by no signal. support/refusals.c says what is counted. The memory of
 crates/plain_run is refused too: it evaluates a request on one thread, with no plan and no pool. A new
-request is a row of ALONE or STARTING in support/step_requests.py.
+request is a row of ALONE or STARTING in support/step_requests.py. A test of crates/pool_tests, which
+opens pools that stay open, is run in the same way.
 """
 
 import os
 
 import pytest
 
-from hostile import MATRICES, NO_MEMORY, PLAIN, PROGRAM, request, status_of
+from hostile import MATRICES, NO_MEMORY, PLAIN, PROGRAM, QUIET, built_tests, request, status_of
 from step_requests import ALONE, SLID, SLID_VALUES, STARTING
 
 pytestmark = pytest.mark.usefixtures("programs")
@@ -30,6 +31,11 @@ PLAIN_REQUESTS = {
         f'{{"data":{SLID_VALUES},"dims":[2, 4]}}\n',
     ),
 }
+# The tests of pools, the test whose starts of threads are refused, how many it makes, and what is printed
+# if it passes.
+POOL_TESTS = built_tests("pool_tests")
+STANDING, STANDING_STARTS = "standing::each_leaf_though_starts_are_refused", 6
+PASSED = ("\ntest result: ok\n", "", 0)
 
 
 def lines_of(runs, line, refused_line):
@@ -67,3 +73,17 @@ def test_memory_of_plain_run(refusals, text, line, onward):
         pytest.skip("plain_run isn't built: rt run in crates/plain_run")
     lines, _ = lines_of(refusals.in_turn(text, PLAIN, "memory", onward), line, NO_MEMORY)
     assert lines == {line, NO_MEMORY}
+
+
+@ONWARD
+def test_starts_of_a_standing_pool(refusals, onward):
+    """One start is refused in each run, or one and all later ones; and none in the last runs."""
+    if not os.access(POOL_TESTS, os.X_OK):
+        pytest.skip("the tests of pool_tests aren't built: rt test in crates/pool_tests")
+    refused = []
+    for number, got, _ in refusals.in_turn(b"", POOL_TESTS, "start", onward, [STANDING]):
+        assert got == PASSED, f"start {number}"
+        assert refusals.starts == STANDING_STARTS
+        refused.append(refusals.starts_refused)
+    wanted = range(STANDING_STARTS, 0, -1) if onward else [1] * STANDING_STARTS
+    assert refused == [*wanted, *[0] * QUIET]

@@ -20,6 +20,11 @@ def built(name):
     return os.path.join(TOP, "crates", name, "out", name)
 
 
+def built_tests(name):
+    """Where the program of a crate's tests is once `rt test` has built it."""
+    return os.path.join(TOP, "crates", name, "out", f"{name}_tests")
+
+
 # The programs by their crates' names, as build/programs lists them.
 PROGRAMS = {it: built(it) for it in ("tensor_run", "tensor_lines", "tensor_frames", "tensor_explain")}
 PROGRAM, LINES_PROGRAM, FRAMES_PROGRAM, EXPLAIN_PROGRAM = PROGRAMS.values()
@@ -82,12 +87,12 @@ def status_of(line):
     return 0 if line.startswith("{") else 1
 
 
-def run(text, env=None, program=PROGRAM):
+def run(text, env=None, program=PROGRAM, options=()):
     """Standard output, standard error and the status of a program; a signal is a number below 0,
     and None stands for no end in time. Bytes that are no UTF-8 come as Python's surrogates."""
     how = {"env": env or {}, "capture_output": True, "timeout": SECONDS, "check": False}
     try:
-        ran = subprocess.run([program], input=text, **how)
+        ran = subprocess.run([program, *options], input=text, **how)
     except subprocess.TimeoutExpired:
         return "", f"no end in {SECONDS} s", None
     out, complaint = (it.decode(errors="surrogateescape") for it in (ran.stdout, ran.stderr))
@@ -158,20 +163,20 @@ class Refusals:
         words = [compiler, "-O1", "-shared", "-fPIC", "-o", self.library, source, "-ldl"]
         subprocess.run(words, check=True)
 
-    def run(self, text, program=PROGRAM, **settings):
+    def run(self, text, program=PROGRAM, options=(), **settings):
         """A run with these settings, as `memory=3` for REFUSE_MEMORY."""
         with open(self.counts, "wb") as file:
             file.write(bytes(COUNTS.size))
         env = {"LD_PRELOAD": self.library, "REFUSE_COUNTS": self.counts}
         for name, value in settings.items():
             env[f"REFUSE_{name.upper()}"] = str(value)
-        ran = run(text, env, program)
+        ran = run(text, env, program, options)
         with open(self.counts, "rb") as file:
             counts = COUNTS.unpack(file.read())
         self.requests, self.refused, self.starts, self.starts_refused, self.interrupted = counts
         return ran
 
-    def in_turn(self, text, program=PROGRAM, kind="memory", onward=0):
+    def in_turn(self, text, program=PROGRAM, kind="memory", onward=0, options=()):
         """Refuses each request for memory, or each start of a thread, in turn: alone, or with all
         later ones. Beyond the first EACH it refuses one of every STRIDE. Yields the number of each,
         what the run printed, and whether it met a refusal. It ends after QUIET runs in a row that
@@ -179,7 +184,7 @@ class Refusals:
         number = quiet = 0
         while quiet < QUIET:
             number += 1 if number < EACH else STRIDE
-            ran = self.run(text, program, **{kind: number, "onward": onward})
+            ran = self.run(text, program, options, **{kind: number, "onward": onward})
             is_met = bool(self.refused if kind == "memory" else self.starts_refused)
             quiet = 0 if is_met else quiet + 1
             yield number, ran, is_met

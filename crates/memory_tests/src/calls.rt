@@ -2,9 +2,7 @@
 //! allocations each makes; a new call needs a variant of `Call` and an arm of `make`.
 
 use crate::refusing::Sparing;
-use event_count::{
-    Committed, CountFault, EventCount, LockedCount, RowCount, RowFault, RowSizes, WaitPoint,
-};
+use event_count::{CountFault, EventCount, LockedCount, RowCount, RowFault, RowSizes, WaitPoint};
 use event_word::{Event, World};
 use parallel_for::leaves;
 use pool_barrier::{Barrier, BarrierFault, Notification};
@@ -12,7 +10,7 @@ use run_queue::{Deque, LockedRows, Rows, RowsFault, SlotRows};
 use std::alloc::{AllocError, Global};
 use std::sync::Wait;
 use steal_walk::Coprimes;
-use waking_rows::{RowPoint, WakingRows, on_one_count};
+use waking_rows::{Rested, on_one_count};
 
 type Heap = Sparing<Global>;
 
@@ -26,12 +24,10 @@ pub(crate) enum Call {
     EventCountAsPoint,
     LockedCount,
     RowCount,
-    RowPoint,
     World,
     Row,
     LockedRows,
     SlotRows,
-    WakingRows,
     OnOneCount,
     Coprimes,
     Leaves,
@@ -81,12 +77,10 @@ pub(crate) fn make<R: Wait>(rt: &R, call: Call, heap: &Heap) -> Answer {
         Call::EventCountAsPoint => Answer::of_count(point::<EventCount<&Heap>>(heap)),
         Call::LockedCount => Answer::of_count(point::<LockedCount<&Heap>>(heap)),
         Call::RowCount => Answer::of(row_count(heap), RowFault::NoMemory),
-        Call::RowPoint => Answer::of_count(point::<RowPoint<&Heap>>(heap)),
         Call::World => Answer::of_memory(world(heap)),
         Call::Row => Answer::of_memory(row(heap)),
         Call::LockedRows => Answer::of_rows(two_rows::<R, LockedRows<u64, &Heap>>(rt, heap)),
         Call::SlotRows => Answer::of_rows(two_rows::<R, SlotRows<u64, &Heap>>(rt, heap)),
-        Call::WakingRows => Answer::of_rows(two_rows::<R, WakingRows<u64, &Heap>>(rt, heap)),
         Call::OnOneCount => Answer::of_memory(one_count(rt, heap)),
         Call::Coprimes => Answer::of_memory(coprimes(heap)),
         Call::Leaves => Answer::of_memory(leaves_of_ten(heap)),
@@ -171,20 +165,18 @@ fn two_rows<'h, R: Wait, Q: Rows<u64, &'h Heap>>(
     Ok(count == 3 && put.is_ok() && left.as_slice() == [7].as_slice())
 }
 
-/// Opens rows for two workers and their wait point, which must have three seats each. A waiter does
-/// not sleep while there is a job. The job is taken at the end. All this needs no other allocation.
+/// Opens rows for two workers and their wait point, which must have three seats each. A rest finds
+/// the job that was put in, and the job comes out at the end. All this needs no other allocation.
 fn one_count<R: Wait>(rt: &R, heap: &Heap) -> Result<bool, AllocError> {
     let made = on_one_count::<u64, &Heap>(&heap, 2)?;
     let (rows, mut row_seats) = (made.rows, made.row_seats);
     let (point, mut waiters) = (made.point, made.waiters);
     let counts = (row_seats.len(), waiters.len());
-    let seat = &mut row_seats[2];
-    let put = rows.put_back(rt, seat, 1, 7);
-    point.enter(rt, &mut waiters[0]);
-    let answer = point.sleep(rt, &mut waiters[0]);
-    let taken = rows.pop_back(rt, seat, 1);
-    let is_right = counts == (3, 3) && put.is_ok() && answer == Committed::Consumed;
-    Ok(is_right && taken == Some(7))
+    let put = rows.push_back(rt, &mut row_seats[2], 1, 7);
+    let rested = point.rest(rt, &mut waiters[0]);
+    let left = rows.close(&mut row_seats);
+    let is_right = counts == (3, 3) && put.is_ok() && rested == Rested::Jobs(1);
+    Ok(is_right && left.as_slice() == [7].as_slice())
 }
 
 fn coprimes(heap: &Heap) -> Result<bool, AllocError> {

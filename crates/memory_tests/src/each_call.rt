@@ -14,8 +14,6 @@ const CALLS: &[(Call, u64)] = &[
     (Call::EventCountAtTheLastEpoch, 4),
     (Call::EventCountAsPoint, 4),
     (Call::RowCount, 4),
-    // A count, the list of its waiters, and the block that is shared.
-    (Call::RowPoint, 6),
     // The World takes eight blocks, and the seats take one.
     (Call::LockedCount, 9),
     // Nine lists take one allocation each, and each of the two workers takes a list of the rows
@@ -28,9 +26,8 @@ const CALLS: &[(Call, u64)] = &[
     // blocks of its table; the words, the seats, the slots, and the two blocks of the table.
     (Call::SlotRows, 10),
     // A count and the block that is shared; rows of slots; the memory for the jobs that are left
-    // and for the seats, four allocations each; the seats.
-    (Call::WakingRows, 24),
-    // As `WakingRows`, with the list of the waiters and the list of the other seats.
+    // and for the seats, four allocations each; the seats of the rows; the list of the waiters and
+    // the list of the other seats of the count.
     (Call::OnOneCount, 26),
     (Call::Coprimes, 1),
     (Call::Leaves, 1),

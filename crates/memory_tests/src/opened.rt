@@ -1,24 +1,27 @@
 //! Pools over any allocator that begin with a root. `pools.rt` runs them.
+ghost use Rattle.worker_pool.specs.Callers.{IsCaller, StaysCaller};
 
 use crate::splits::{Ends, Splits};
-use event_count::LockedCount;
-use run_queue::LockedRows;
+use event_count::{LockedCount, WaitPoint};
+use run_queue::{LockedRows, Rows};
 use std::alloc::Allocator;
 use std::sync::Wait;
 use std::sync::atomic::{AtomicU64, Ordering};
 use std::thread::Threads;
-use worker_pool::{Closed, NoGate, PoolFault, Setup, VecLists, with_counted_root, with_root};
+use worker_pool::{
+    Caller, Closed, Job, Lists, NoGate, PoolFault, Setup, VecLists, with_counted_root, with_pool,
+};
 
 /// How a pool is opened.
 #[derive(Clone, Copy, Debug)]
 pub(crate) enum Entry {
-    /// By `with_root`.
-    Root,
+    /// By `with_pool`, whose body schedules the root.
+    Body,
     /// By `with_counted_root`.
     CountedRoot,
 }
 
-/// How often a pool called the function after its root, and how its jobs ended.
+/// How often a pool called its body, or the function after its root, and how its jobs ended.
 #[derive(Drop)]
 pub(crate) struct Counts {
     calls: AtomicU64,
@@ -57,32 +60,46 @@ where
     };
     let Counts { calls, ends } = counts;
     match entry {
-        Entry::Root => planted(rt, alloc, &setup, ends, calls, root),
+        Entry::Body => planted::<LockedCount<A>, LockedRows<Splits, A>, VecLists, RT, Splits, A>(
+            rt, alloc, &setup, ends, calls, root,
+        ),
         Entry::CountedRoot => counted(rt, alloc, &setup, ends, calls, root),
     }
 }
 
-/// Runs the root by `with_root`.
-fn planted<RT, A>(
+/// Runs the root in a pool over the given wait point and rows, whose body schedules it.
+fn planted<W, R, L, RT, J, A>(
     rt: &RT,
     alloc: A,
     setup: &Setup<A>,
-    ends: &Ends,
+    ctx: &J::Ctx,
     calls: &AtomicU64,
-    root: Splits,
-) -> Result<Closed<Splits, A>, PoolFault>
+    root: J,
+) -> Result<Closed<J, A>, PoolFault>
 where
     RT: Threads + Wait + Sync,
+    J: Job<A> + Drop + Send,
+    J::Ctx: Sync,
+    J::Out: Send,
+    J::Abandoned: Send,
     A: Allocator + Clone + Send + Sync,
+    W: WaitPoint<A> + Sync,
+    W::Seat: Send,
+    R: Rows<J, A> + Sync,
+    R::Seat: Send,
+    L: Lists<J::Out, A>,
 {
-    with_root::<LockedCount<A>, LockedRows<Splits, A>, VecLists, RT, Splits, A, NoGate, _>(
+    with_pool::<W, R, L, RT, J, A, NoGate, _>(
         rt,
         alloc,
         setup,
-        ends,
+        ctx,
         &NoGate,
-        root,
-        |_| {
+        |caller: &mut Caller<'_, J, A, W, R, L>|
+            requires { IsCaller R.Rows W.WaitPoint J.Job L.Lists caller.old }
+            ensures { StaysCaller R.Rows W.WaitPoint J.Job L.Lists caller.old caller.new }
+        {
+            caller.schedule(rt, root);
             calls.fetch_add(1, Ordering::SeqCst);
         },
     )

@@ -16,14 +16,14 @@ const JOBS: u64 = 40;
 const MOST_MORE: u64 = 64;
 
 /// How pools are opened, numbers of workers, and how many allocations an opening makes. With locks
-/// the rows make three and one for each worker, and the count makes nine. Over one count, rows and
-/// count make 26. The stop word makes two, the coprimes and the states of the workers one each, and
+/// the rows make three and one for each worker, the count makes nine, and the stop word two. Over
+/// one count, rows and count make 26. The coprimes and the states of the workers make one each, and
 /// the lists of what comes home four.
 const OPENINGS: &[(Entry, u32, u64)] = &[
-    (Entry::Root, 1, 21),
-    (Entry::Root, 2, 22),
-    (Entry::CountedRoot, 1, 34),
-    (Entry::CountedRoot, 2, 34),
+    (Entry::Body, 1, 21),
+    (Entry::Body, 2, 22),
+    (Entry::CountedRoot, 1, 32),
+    (Entry::CountedRoot, 2, 32),
 ];
 
 /// A pool that runs the root.

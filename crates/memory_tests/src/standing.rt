@@ -16,7 +16,7 @@ const JOBS: u64 = 20;
 
 /// How many allocations an opening makes: those of `with_counted_root`, the list of threads, and
 /// the block that the threads own together.
-const TAKES: u64 = 36;
+const TAKES: u64 = 34;
 
 /// How many allocations after its opening a pool is tried with at most. They suffice for all jobs.
 const MOST_MORE: u64 = 64;

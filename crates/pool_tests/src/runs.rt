@@ -2,7 +2,7 @@
 use crate::bodies::run_all;
 use crate::own_rows::OwnRows;
 use crate::setups::setup_of;
-use crate::tasks::{meeting, out_of, tenfolds};
+use crate::tasks::{looking, meeting, out_of, tenfolds};
 use crate::watch::{Seen, Watch, Way};
 use crate::worn::Worn;
 use event_count::{EventCount, LockedCount};
@@ -84,6 +84,8 @@ pub(crate) enum Tasks {
     Tenfolds,
     /// Two tasks that look for each other's flag.
     Meeting,
+    /// A task that looks whether the workers were let go.
+    Looking,
 }
 
 /// A pool, and the tasks with tags 1, 2, 3 and so on that are scheduled in it.
@@ -183,7 +185,7 @@ fn left_of(
 
 /// Checks that each task was run once, or is left if the pool was cancelled, and that the right
 /// threads ran them.
-pub(crate) fn expect_each_once<R: Abort>(
+fn expect_each_once<R: Abort>(
     rt: &R,
     alloc: Global,
     run: Run,
@@ -234,6 +236,7 @@ where
         let first = match run.scheduled {
             Tasks::Tenfolds => tenfolds(alloc, 0, run.first)?,
             Tasks::Meeting => meeting(alloc)?,
+            Tasks::Looking => looking(alloc, &watch.ran, &watch.let_go)?,
         };
         let cancelled = tenfolds(alloc, run.first, run.tasks)?;
         let closed = run_tasks(rt, alloc, run.kind, &setup, &watch, first, cancelled)?;

@@ -1,14 +1,7 @@
 //! Tests of pools in which each task is run once, by tables of runs and settings.
-use crate::runs::{Kind, RUN, Run, Tasks, expect_each_once, expect_run};
-use crate::setups::setup_of;
-use crate::tasks::looking;
-use crate::watch::{Watch, Way, wait_for};
-use event_count::LockedCount;
-use run_queue::LockedRows;
-use std::sync::Arc;
-use std::sync::atomic::{AtomicU64, Ordering};
+use crate::runs::{Kind, RUN, Run, Tasks, expect_run};
+use crate::watch::Way;
 use std::test::Fail;
-use worker_pool::{BoxedJob, VecLists, with_root};
 
 /// Two tasks, between which the pool is cancelled.
 const BETWEEN: Run = Run {
@@ -65,6 +58,18 @@ const RUNS: &[Run] = &[
         name: "a full row over slots",
         kind: Kind::OverSlots,
         ..FULL
+    },
+    // The workers are let go once the task could have run. One of them runs it, after the gate has
+    // let through its turn 0.
+    Run {
+        name: "a task while all workers are held",
+        workers: 2,
+        way: Way::HeldLonger,
+        scheduled: Tasks::Looking,
+        first: 1,
+        tasks: 1,
+        by_workers: Some(1),
+        ..RUN
     },
     // This run finds a pool that keeps its jobs elsewhere than in its rows.
     Run {
@@ -133,39 +138,4 @@ fn three_tasks_in_each_setting(rt: HostRuntime) -> Result<(), Fail> {
         }
     }
     Ok(())
-}
-
-/// How often the opener checks whether the task runs while all workers are held.
-const EARLY_LOOKS: u64 = 1_000_000;
-
-/// The workers are let go once the task could have run. One of them runs it, after the gate has let
-/// through its turn 0.
-#[test]
-fn a_gate_that_holds_the_first_turns(rt: HostRuntime) -> Result<(), Fail> {
-    let alloc = rt.alloc();
-    let run = Run {
-        name: "a root while all workers are held",
-        workers: 2,
-        first: 1,
-        tasks: 1,
-        by_workers: Some(1),
-        ..RUN
-    };
-    let setup = setup_of(alloc, run.workers, run.ranges)?;
-    let watch = Watch::new(alloc, Way::Held, None)?;
-    let ran = Arc::new(alloc, AtomicU64::new(0))?;
-    let root = looking(alloc, &ran, &watch.let_go)?;
-    let closed = with_root::<LockedCount, LockedRows<BoxedJob>, VecLists, _, _, _, _, _>(
-        &rt,
-        alloc,
-        &setup,
-        &(),
-        &watch,
-        root,
-        |_| {
-            wait_for(&ran, EARLY_LOOKS);
-            watch.let_go.store(1, Ordering::SeqCst);
-        },
-    )?;
-    expect_each_once(&rt, alloc, run, &closed, watch.seen())
 }

@@ -1,10 +1,10 @@
 //! Tests of which setups a pool accepts.
 use crate::runs::run_tasks;
-use crate::standing::{fault_over_slots, grow_all};
+use crate::standing::grow_all;
 use crate::tasks::tenfolds;
 use crate::trees::grow;
 use crate::watch::{Watch, Way};
-use crate::{runs, trees};
+use crate::{runs, standing, trees};
 use std::alloc::{AllocError, Global};
 use std::sync::Wait;
 use std::test::Fail;
@@ -65,14 +65,13 @@ fn setups_that_are_taken_and_refused(rt: HostRuntime) -> Result<(), Fail> {
         let found = [
             setup.check().err(),
             grow(&rt, alloc, trees::Kind::UnderLocks, &setup, 0).err(),
-            grow(&rt, alloc, trees::Kind::Planted, &setup, 0).err(),
             grow(&rt, alloc, trees::Kind::Counted, &setup, 0).err(),
             fault_of(&rt, alloc, &setup, None)?,
             fault_of(&rt, alloc, &setup, Some(1))?,
-            grow_all(&rt, alloc, &setup, 0).err(),
-            fault_over_slots(&rt, alloc, &setup),
+            grow_all(&rt, alloc, &setup, (standing::Kind::Counted, 0)).err(),
+            grow_all(&rt, alloc, &setup, (standing::Kind::OverSlots, 0)).err(),
         ];
-        assert_eq!(rt; found, [fault; 8], "{workers} workers, {ranges:?}");
+        assert_eq!(rt; found, [fault; 7], "{workers} workers, {ranges:?}");
     }
     Ok(())
 }

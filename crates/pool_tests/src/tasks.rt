@@ -88,14 +88,16 @@ pub(crate) fn looking(
     alloc: Global,
     ran: &Arc<AtomicU64>,
     let_go: &Arc<AtomicU64>,
-) -> Result<BoxedJob, AllocError> {
+) -> Result<Vec<BoxedJob>, AllocError> {
     let task = Meets {
         tag: 1,
         mine: Arc::try_clone(ran)?,
         other: Arc::try_clone(let_go)?,
         looks: 1,
     };
-    Ok(BoxedJob(Box::new(alloc, task)?))
+    let mut jobs = Vec::new(alloc);
+    jobs.push(BoxedJob(Box::new(alloc, task)?))?;
+    Ok(jobs)
 }
 
 /// Returns two tasks with the tags 1 and 2, which look for each other's flag.

@@ -9,9 +9,7 @@ use std::process::Abort;
 use std::sync::Wait;
 use std::test::Fail;
 use std::thread::Threads;
-use worker_pool::{
-    Closed, Job, NoGate, PoolFault, Progress, Setup, VecLists, with_counted_root, with_root,
-};
+use worker_pool::{Closed, Job, NoGate, PoolFault, Progress, Setup, VecLists, with_counted_root};
 
 /// A job for the leaves of a tree, whose outs are their places. A tree of height 0 is a leaf.
 #[derive(Drop)]
@@ -54,8 +52,6 @@ impl Job<Global> for Tree {
 /// How a pool for a tree is opened, and its wait point and rows.
 #[derive(Clone, Copy)]
 pub(crate) enum Kind {
-    /// Opened by `with_root`, with locks.
-    Planted,
     /// Opened by `with_counted_root`, over one count.
     Counted,
     UnderLocks,
@@ -73,17 +69,6 @@ pub(crate) fn grow<RT: Threads + Wait + Sync>(
     let watch = Watch::new(alloc, Way::AtOnce, None)?;
     let none = Vec::new(alloc);
     let root = Tree { place: 0, height };
-    if matches!(kind, Kind::Planted) {
-        return with_root::<LockedCount, LockedRows<Tree>, VecLists, RT, Tree, Global, NoGate, _>(
-            rt,
-            alloc,
-            setup,
-            &(),
-            &NoGate,
-            root,
-            |_| {},
-        );
-    }
     if matches!(kind, Kind::Counted) {
         return with_counted_root::<VecLists, RT, Tree, Global, NoGate, _>(
             rt,
@@ -160,9 +145,6 @@ const TREES: &[Grown] = &[
     (Kind::UnderLocks, 1, 16, 65_536, 1),
     (Kind::UnderLocks, 2, 16, 65_536, 1),
     (Kind::UnderLocks, 64, 16, 65_536, 1),
-    (Kind::Planted, 1, 16, 65_536, 1),
-    (Kind::Planted, 2, 16, 65_536, 1),
-    (Kind::Planted, 64, 16, 65_536, 1),
     (Kind::Counted, 1, 16, 65_536, 1),
     (Kind::Counted, 2, 16, 65_536, 1),
     (Kind::Counted, 64, 16, 65_536, 1),

@@ -14,6 +14,9 @@ const IDLE_TURNS: u64 = 1_000;
 /// How often the body looks at most whether the workers have taken these turns.
 const PASSES: u64 = 20_000_000;
 
+/// How often the body looks at most whether a task runs while all workers are held.
+const EARLY_LOOKS: u64 = 1_000_000;
+
 /// How jobs are scheduled.
 #[derive(Clone, Copy)]
 pub(crate) enum Way {
@@ -21,6 +24,9 @@ pub(crate) enum Way {
     AtOnce,
     /// While each worker is held before its first turn, until all jobs are scheduled.
     Held,
+    /// As with `Held`. After each job the body waits for a while, in which a worker that was not
+    /// held would run it.
+    HeldLonger,
     /// Each job by itself, after which the workers are left alone for a while.
     Apart,
 }
@@ -46,6 +52,8 @@ pub(crate) struct Watch {
     pub(crate) starts: Option<u32>,
     /// A flag that is raised once all jobs are scheduled.
     pub(crate) let_go: Arc<AtomicU64>,
+    /// A flag that a task may raise when it runs.
+    pub(crate) ran: Arc<AtomicU64>,
     told: AtomicU64,
     turns: AtomicU64,
     others: AtomicU64,
@@ -61,6 +69,7 @@ impl Watch {
             way,
             starts,
             let_go: Arc::new(alloc, AtomicU64::new(0))?,
+            ran: Arc::new(alloc, AtomicU64::new(0))?,
             told: AtomicU64::new(u64::MAX),
             turns: AtomicU64::new(0),
             others: AtomicU64::new(0),
@@ -75,12 +84,17 @@ impl Watch {
         self.told.store(u64::from(workers), Ordering::SeqCst);
     }
 
-    /// Is called after a job was scheduled. If each job is scheduled by itself, waits for a while,
-    /// and records whether more than `IDLE_TURNS` turns were taken.
+    /// Is called after a job was scheduled, and waits as the way says.
     pub(crate) fn look_on(&self) {
-        if !matches!(self.way, Way::Apart) {
-            return;
+        match self.way {
+            Way::AtOnce | Way::Held => {}
+            Way::HeldLonger => wait_for(&self.ran, EARLY_LOOKS),
+            Way::Apart => self.look_at_turns(),
         }
+    }
+
+    /// Waits for a while, and records whether more than `IDLE_TURNS` turns were taken.
+    fn look_at_turns(&self) {
         let before = self.turns.load(Ordering::SeqCst);
         for _ in 0..PASSES {
             if self.turns.load(Ordering::SeqCst).wrapping_sub(before) > IDLE_TURNS {
@@ -102,7 +116,7 @@ impl Watch {
 }
 
 /// Looks at a flag until it is raised, at most the given number of times.
-pub(crate) fn wait_for(flag: &AtomicU64, looks: u64) {
+fn wait_for(flag: &AtomicU64, looks: u64) {
     for _ in 0..looks {
         if flag.load(Ordering::SeqCst) == 1 {
             return;
@@ -117,7 +131,7 @@ impl Gate for Watch {
         }
         match self.way {
             Way::AtOnce => {}
-            Way::Held => {
+            Way::Held | Way::HeldLonger => {
                 if let Some(next) = self.next.get(worker as usize) {
                     if next.fetch_add(1, Ordering::SeqCst) != turn {
                         self.misnumbered.fetch_add(1, Ordering::SeqCst);

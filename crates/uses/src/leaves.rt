@@ -1,17 +1,23 @@
 //! Fork and join: the leaves of a tree, counted by the workers of a pool, and those of many trees,
 //! counted in one pool that stays open. `worker_pool/CALLING.md` quotes both.
-ghost use Rattle.std.specs.Prelude.{◌≡◌, ◌+◌, ◌^◌, ◌%◌, ◌↔◌, IfOk, IsErrOf, sum, sum_by};
+ghost use Rattle.std.specs.Prelude.{◌≡◌, ◌+◌, ◌^◌, ◌%◌, ◌↔◌, [], ◌∷◌, ◌++◌, IfOk, IsErrOf};
+ghost use Rattle.std.specs.Prelude.{sum, sum_by};
+ghost use Rattle.worker_pool.specs.Accounts.{Account};
+ghost use Rattle.worker_pool.specs.Callers.{IsCaller, StaysCaller, roots_of, stop_of};
+ghost use Rattle.worker_pool.specs.Closings.{all_outs};
+ghost use Rattle.worker_pool.specs.Laws.{law_of};
 ghost use Rattle.worker_pool.specs.Setup.{IsNoPoolSize};
 ghost use Rattle.worker_pool.specs.Standing.{roots_in};
 ghost use Rattle.uses.specs.Trees.{leaves_of};
 
-use event_count::EventCount;
-use run_queue::SlotRows;
+use event_count::{EventCount, WaitPoint};
+use run_queue::{Rows, SlotRows};
 use std::alloc::{AllocError, Global};
 use std::sync::Wait;
 use std::thread::Threads;
 use worker_pool::{
-    CountedPool, Job, NoGate, PoolFault, Progress, Setup, Stands, VecLists, open_counted, with_root,
+    Caller, Closed, CountedPool, Job, Lists, NoGate, PoolFault, Progress, Setup, Stands, VecLists,
+    open_counted, with_pool,
 };
 
 /// A tree. One of its kids is lower by one, the other by two. Below height 2 it is a leaf.
@@ -74,6 +80,47 @@ fn total(lists: &[Vec<u64>]) -> u64
     sum
 }
 
+/// Runs the job `root` and its kids in a pool over such a wait point, such rows and such lists, and
+/// returns what the pool leaves.
+fn run_root<W, R, L, RT, J>(
+    rt: &RT,
+    alloc: Global,
+    setup: &Setup,
+    root: J,
+) -> Result<Closed<J>, PoolFault>
+where
+    RT: Threads + Wait + Sync,
+    J: Job<Global, Ctx = ()> + Drop + Send,
+    J::Out: Send,
+    J::Abandoned: Send,
+    W: WaitPoint<Global> + Sync,
+    W::Seat: Send,
+    R: Rows<J, Global> + Sync,
+    R::Seat: Send,
+    L: Lists<J::Out, Global>,
+    ensures account { IfOk result (λ closed.
+        Account R.keeps_accounts (law_of J.Job tt) (root ∷ []) [] (all_outs closed.outs)
+        closed.left.items closed.refused) }
+    ensures none_left { IfOk result (λ closed. closed.left.items ≡ []) }
+    ensures bad_workers { IsErrOf result PoolFault.BadWorkers ↔ IsNoPoolSize setup.now.workers }
+{
+    with_pool::<W, R, L, RT, J, Global, NoGate, _>(
+        rt,
+        alloc,
+        setup,
+        &(),
+        &NoGate,
+        |caller: &mut Caller<'_, J, Global, W, R, L>|
+            requires { IsCaller R.Rows W.WaitPoint J.Job L.Lists caller.old }
+            ensures stays { StaysCaller R.Rows W.WaitPoint J.Job L.Lists caller.old caller.new }
+            ensures more { roots_of caller.new ≡ roots_of caller.old ++ root ∷ [] }
+            ensures stop { stop_of caller.new ≡ stop_of caller.old }
+        {
+            caller.schedule(rt, root);
+        },
+    )
+}
+
 /// Counts the leaves of the tree of this height, modulo 2^64.
 pub fn count_leaves<RT: Threads + Wait + Sync>(
     rt: &RT,
@@ -88,14 +135,9 @@ pub fn count_leaves<RT: Threads + Wait + Sync>(
         workers,
         partitions: Vec::new(alloc),
     };
-    let closed = with_root::<EventCount, SlotRows<Tree>, VecLists, RT, Tree, Global, NoGate, _>(
-        rt,
-        alloc,
-        &setup,
-        &(),
-        &NoGate,
-        Tree { height },
-        |_| {},
+    let root = Tree { height };
+    let closed = run_root::<EventCount, SlotRows<Tree>, VecLists, RT, Tree>(
+        rt, alloc, &setup, root,
     )?;
     if closed.refused > 0 {
         return Err(PoolFault::NoMemory);

@@ -5,13 +5,11 @@ use Rattle.std.specs.Prelude.{sum_by}
 use Rattle.std.specs.List.{flat_map}
 use Rattle.std.proofs.lemmas.List.{append-nil, flat_map_more}
 use Rattle.std.proofs.lemmas.List.Elements.{All-nil, All-cons, All-same}
-use Rattle.event_count.specs.declared.wait_point.WaitPoint as wait_point
 use Rattle.run_queue.specs.Account.{AccountsFor}
 use Rattle.run_queue.specs.Bag.{total, SameBag}
-use Rattle.run_queue.specs.declared.rows.Rows as rows
 use Rattle.worker_pool.specs.declared.closing.gathered.Gathered.{Gathered}
-use Rattle.worker_pool.specs.declared.working.job_queue.JobQueue.{JobQueue}
 use Rattle.worker_pool.specs.declared.job.Job as job
+use Rattle.worker_pool.specs.declared.queues.queue.Queue as queue
 use Rattle.worker_pool.specs.Laws.{JobLaw}
 use Rattle.worker_pool.specs.declared.working.pool.Pool.{Pool}
 use Rattle.worker_pool.specs.declared.working.worker.WorkerState.{WorkerState}
@@ -21,7 +19,6 @@ use Rattle.worker_pool.specs.Gathered.{Adds, HasGathered, IsEmpty}
 use Rattle.worker_pool.specs.Nodes.{Node, Left, IsLawful, job_of, kids_of, outs_of}
 use Rattle.worker_pool.specs.Nodes.{left_of, refusals_of}
 use Rattle.worker_pool.specs.Ran.{Ran, RanToo, AreSettled}
-use Rattle.worker_pool.specs.Seats.{IsIdle}
 use Rattle.worker_pool.specs.Laws.{law_of}
 use Rattle.worker_pool.specs.Works.{IsAtWork}
 use Rattle.worker_pool.proofs.Bags.{total-append}
@@ -237,49 +234,45 @@ handed-back keeps law puts takes drained seats seat all k l m left a b c n worke
       refused_are = is ∙ ap (λ refused. counted (a + refused)) no_more_refused;
     }
 
--- one more has come home
-pub gathers-more : {J A W R C O N T S : Type 0} (row : rows.Ghosts R J A S)
-    (point : wait_point.Ghosts W A T) (law : job.Ghosts J A C O N) (pool : Pool J A W R) (ctx : C)
-    (state : WorkerState J A W R C O N T S) (before after : Gathered J A W R C O N T S)
-    → IsAtWork row point law pool ctx state → Adds state before after
-    → HasGathered row point law pool.queue ctx before
-    → HasGathered row point law pool.queue ctx after
-gathers-more row point law pool ctx state before after at_work adds home =
-    let rows_long = length-snoc before.rows.items state.seats.row after.rows.items adds.rows in
-    let wakers_long =
-    length-snoc before.wakers.items state.seats.waker after.wakers.items adds.wakers in
-    let lists_long = length-snoc before.lists.items state.outs after.lists.items adds.lists in
-    let wakers_many = home.wakers_many in
-    let lists_many = home.lists_many in
-    record {
-      ours = All-snoc (λ seat. row.rows_of seat ≡ row.identity_of pool.queue.rows) _ _ _ adds.rows
-          home.ours at_work.seats.owns.ours;
-      idle = All-snoc (IsIdle point pool.queue.point) _ _ _ adds.wakers home.idle
-          at_work.seats.waits.idle;
-      wakers_many = omega arith;
-      lists_many = omega arith;
-      account = account-append _ _ _ _ _ _ _ _ _ _ _ [] [] [] _ _ _ home.account at_work.account
-          (λ on. flat_map-snoc row.takes_of _ _ _ adds.rows)
-          (λ on. flat_map-snoc row.puts_of _ _ _ adds.rows)
-          (flat_map-snoc (λ list. list.items) _ _ _ adds.lists) refl adds.refused;
-    }
+module _ {J A Q C O N B D S P : Type 0} (at : queue.Ghosts Q J A B D S P)
+    (law : job.Ghosts J A C O N) where
+  -- one more has come home
+  pub gathers-more : (pool : Pool J A Q B D S P) (queue : Q) (ctx : C)
+      (state : WorkerState J A Q C O N B D S P) (before after : Gathered J A Q C O N B D S P)
+      → IsAtWork at law pool ctx state → Adds at queue state before after
+      → HasGathered at queue law ctx before → HasGathered at queue law ctx after
+  gathers-more pool queue ctx state before after at_work adds home =
+      let rows_long =
+      length-snoc before.rows.items (at.row_of state.seat) after.rows.items adds.rows in
+      let wakers_long = length-snoc before.wakers.items adds.waker after.wakers.items adds.wakers in
+      let lists_long = length-snoc before.lists.items state.outs after.lists.items adds.lists in
+      let wakers_many = home.wakers_many in
+      let lists_many = home.lists_many in
+      record {
+        ours = All-snoc (at.is_row queue) _ _ _ adds.rows home.ours adds.ours;
+        idle = All-snoc (at.is_waker queue) _ _ _ adds.wakers home.idle adds.idle;
+        wakers_many = omega arith;
+        lists_many = omega arith;
+        account = account-append _ _ _ _ _ _ _ _ _ _ _ [] [] [] _ _ _ home.account
+            at_work.account
+            (λ on. flat_map-snoc at.takes_of _ _ _ adds.rows)
+            (λ on. flat_map-snoc at.puts_of _ _ _ adds.rows)
+            (flat_map-snoc (λ list. list.items) _ _ _ adds.lists) refl adds.refused;
+      }
 
--- no worker has come home yet
-pub gathers-none : {J A W R C O N T S : Type 0} (row : rows.Ghosts R J A S)
-    (point : wait_point.Ghosts W A T) (law : job.Ghosts J A C O N) (queue : JobQueue W R) (ctx : C)
-    (gathered : Gathered J A W R C O N T S) → IsEmpty gathered
-    → HasGathered row point law queue ctx gathered
-gathers-none row point law queue ctx gathered none = record {
-  ours = All-same (λ seat. row.rows_of seat ≡ row.identity_of queue.rows) _ _ none.no_rows
-      (All-nil _);
-  idle = All-same (IsIdle point queue.point) _ _ none.no_wakers (All-nil _);
-  wakers_many = ap length none.no_wakers ∙ sym (ap length none.no_rows);
-  lists_many = ap length none.no_lists ∙ sym (ap length none.no_rows);
-  account = subst (λ n. Account row.keeps_accounts (law_of law ctx)
-      (flat_map row.takes_of gathered.rows.items) (flat_map row.puts_of gathered.rows.items)
-      (flat_map (λ list. list.items) gathered.lists.items) [] n)
-      (sym none.none_refused)
-      (account-none _ _ _ _ _ (λ on. ap (flat_map row.takes_of) none.no_rows)
-      (λ on. ap (flat_map row.puts_of) none.no_rows)
-      (ap (flat_map (λ list. list.items)) none.no_lists));
-}
+  -- no worker has come home yet
+  pub gathers-none : (queue : Q) (ctx : C) (gathered : Gathered J A Q C O N B D S P)
+      → IsEmpty gathered → HasGathered at queue law ctx gathered
+  gathers-none queue ctx gathered none = record {
+    ours = All-same (at.is_row queue) _ _ none.no_rows (All-nil _);
+    idle = All-same (at.is_waker queue) _ _ none.no_wakers (All-nil _);
+    wakers_many = ap length none.no_wakers ∙ sym (ap length none.no_rows);
+    lists_many = ap length none.no_lists ∙ sym (ap length none.no_rows);
+    account = subst (λ n. Account at.keeps_accounts (law_of law ctx)
+        (flat_map at.takes_of gathered.rows.items) (flat_map at.puts_of gathered.rows.items)
+        (flat_map (λ list. list.items) gathered.lists.items) [] n)
+        (sym none.none_refused)
+        (account-none _ _ _ _ _ (λ on. ap (flat_map at.takes_of) none.no_rows)
+        (λ on. ap (flat_map at.puts_of) none.no_rows)
+        (ap (flat_map (λ list. list.items)) none.no_lists));
+  }

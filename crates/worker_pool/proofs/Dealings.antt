@@ -4,10 +4,8 @@ use Rattle.std.proofs.Common.{sym, ap, ◌∙◌, arith}
 use Rattle.std.specs.List.{range_with_len}
 use Rattle.std.proofs.lemmas.List.{map-id, map_push, same_from_push}
 use Rattle.std.proofs.lemmas.List.FromFn.{map-range_with_len_more}
-use Rattle.event_count.specs.declared.wait_point.WaitPoint as wait_point
-use Rattle.run_queue.specs.declared.rows.Rows as rows
-use Rattle.worker_pool.specs.Openings.{AreRowSeats, AreWakers}
-use Rattle.worker_pool.specs.Seats.{IsIdle}
+use Rattle.worker_pool.specs.declared.queues.queue.Queue as queue
+use Rattle.worker_pool.specs.Openings.{AreRows, AreWakers}
 use Rattle.worker_pool.proofs.Growing.{All-front, All-rest, length-snoc}
 
 -- one number more stands at the end
@@ -60,40 +58,39 @@ module _ {X : Type 0} (number_of : X → ℕ) where
       ∙ (ap (λ k. range_with_len 0 (length xs) ++ k ∷ []) next
       ∙ (sym (range_with_len-more (length xs)) ∙ sym (ap (range_with_len 0) long)))))
 
-module _ {R J A S : Type 0} (row : rows.Ghosts R J A S) (at : R) where
-  -- all seats but the last
-  pub AreRowSeats-front : (all xs : List S) (x : S) → all ≡ xs ++ x ∷ []
-      → AreRowSeats row at 0 all → AreRowSeats row at 0 xs
-  AreRowSeats-front all xs x is seats = record {
-    ours = All-front (λ seat. row.rows_of seat ≡ row.identity_of at) all xs x is seats.ours;
-    numbers = numbers-front row.number_of all xs x is seats.numbers;
-    untouched = λ on. All-front (λ seat. (row.puts_of seat ≡ []) × (row.takes_of seat ≡ [])) all xs
-        x is (seats.untouched on);
+module _ {Q J A B D S P : Type 0} (at : queue.Ghosts Q J A B D S P) (queue : Q) where
+  -- all seats at the rows but the last
+  pub AreRows-front : (all xs : List B) (x : B) → all ≡ xs ++ x ∷ []
+      → AreRows at queue 0 all → AreRows at queue 0 xs
+  AreRows-front all xs x is rows = record {
+    ours = All-front (at.is_row queue) all xs x is rows.ours;
+    numbers = numbers-front at.row_number all xs x is rows.numbers;
+    untouched = λ on. All-front (λ row. (at.puts_of row ≡ []) × (at.takes_of row ≡ [])) all xs
+        x is (rows.untouched on);
   }
 
-  -- all seats but the first
-  pub AreRowSeats-rest : (n : ℕ) (all : List S) (x : S) (xs : List S) → all ≡ x ∷ xs
-      → AreRowSeats row at n all → AreRowSeats row at (n + 1) xs
-  AreRowSeats-rest n all x xs is seats = record {
-    ours = All-rest (λ seat. row.rows_of seat ≡ row.identity_of at) all x xs is seats.ours;
-    numbers = numbers-rest row.number_of n all x xs is seats.numbers;
-    untouched = λ on. All-rest (λ seat. (row.puts_of seat ≡ []) × (row.takes_of seat ≡ [])) all x xs
-        is (seats.untouched on);
+  -- all but the first
+  pub AreRows-rest : (n : ℕ) (all : List B) (x : B) (xs : List B) → all ≡ x ∷ xs
+      → AreRows at queue n all → AreRows at queue (n + 1) xs
+  AreRows-rest n all x xs is rows = record {
+    ours = All-rest (at.is_row queue) all x xs is rows.ours;
+    numbers = numbers-rest at.row_number n all x xs is rows.numbers;
+    untouched = λ on. All-rest (λ row. (at.puts_of row ≡ []) × (at.takes_of row ≡ [])) all x xs
+        is (rows.untouched on);
   }
 
-module _ {W A T : Type 0} (point : wait_point.Ghosts W A T) (at : W) where
-  -- all seats but the last
-  pub AreWakers-front : (all xs : List T) (x : T) → all ≡ xs ++ x ∷ []
-      → AreWakers point at 0 all → AreWakers point at 0 xs
-  AreWakers-front all xs x is seats = record {
-    idle = All-front (IsIdle point at) all xs x is seats.idle;
-    numbers = numbers-front point.number_of all xs x is seats.numbers;
+  -- all seats at the point but the last
+  pub AreWakers-front : (all xs : List D) (x : D) → all ≡ xs ++ x ∷ []
+      → AreWakers at queue 0 all → AreWakers at queue 0 xs
+  AreWakers-front all xs x is wakers = record {
+    ours = All-front (at.is_waker queue) all xs x is wakers.ours;
+    numbers = numbers-front at.waker_number all xs x is wakers.numbers;
   }
 
-  -- all seats but the first
-  pub AreWakers-rest : (n : ℕ) (all : List T) (x : T) (xs : List T) → all ≡ x ∷ xs
-      → AreWakers point at n all → AreWakers point at (n + 1) xs
-  AreWakers-rest n all x xs is seats = record {
-    idle = All-rest (IsIdle point at) all x xs is seats.idle;
-    numbers = numbers-rest point.number_of n all x xs is seats.numbers;
+  -- all but the first
+  pub AreWakers-rest : (n : ℕ) (all : List D) (x : D) (xs : List D) → all ≡ x ∷ xs
+      → AreWakers at queue n all → AreWakers at queue (n + 1) xs
+  AreWakers-rest n all x xs is wakers = record {
+    ours = All-rest (at.is_waker queue) all x xs is wakers.ours;
+    numbers = numbers-rest at.waker_number n all x xs is wakers.numbers;
   }

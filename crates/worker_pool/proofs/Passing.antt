@@ -7,7 +7,7 @@ use Rattle.std.proofs.lemmas.List.{get_or-set_other}
 use Rattle.std.proofs.lemmas.List.Elements.{All-head, All-tail, All-weaker}
 use Rattle.std.proofs.lemmas.List.Sums.{sum_by-cons}
 use Rattle.steal_walk.specs.Walk.{VisitsEachOnce}
-use Rattle.worker_pool.specs.declared.working.job_queue.seen.Seen.{Seen}
+use Rattle.worker_pool.specs.declared.queues.job_queue.seen.Seen.{Seen}
 use Rattle.worker_pool.specs.Seen.{has_passed, after_look, HasPassedRows}
 use Rattle.worker_pool.proofs.Growing.{All-snoc}
 

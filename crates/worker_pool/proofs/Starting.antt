@@ -7,7 +7,7 @@ use Rattle.std.proofs.lemmas.List.{append-nil}
 use Rattle.std.proofs.lemmas.List.Elements.{All-nil, All-cons}
 use Rattle.std.proofs.lemmas.List.Sums.{sum_by_push}
 use Rattle.worker_pool.specs.declared.opening.start.home.Home.{Home}
-use Rattle.worker_pool.specs.declared.opening.start.home.Start.TheVariants.{Joined, NotAsked}
+use Rattle.worker_pool.specs.declared.opening.start.home.Start.TheVariants.{Joined}
 use Rattle.worker_pool.specs.Starts.{was_joined, was_asked, joined_of, AsksFirst, ComesHome}
 use Rattle.worker_pool.specs.Starts.{Ends}
 use Rattle.worker_pool.proofs.Growing.{All-snoc, length-snoc}

@@ -44,6 +44,6 @@ pub record HasClosed {J A W R L C O N T S K : Type 0} (row : rows.Ghosts R J A S
   pub stop : stop_of before ≡ open_word
   pub none_left : ¬ IsCancelled after → left ≡ []
   pub handed_back : IsCancelled after → IsHandedBack row.keeps_accounts law
-      (row.puts_of after.opener.seats.row) (list.items_of after.opener.outs) after.opener.refused
+      (row.puts_of after.opener.seats.seat.row) (list.items_of after.opener.outs) after.opener.refused
       outs left refused
   pub account : Account row.keeps_accounts law (roots_of after) [] outs left refused

@@ -3,9 +3,11 @@ pub mod Accounts
 pub mod Callers
 pub mod OpenerStates
 pub mod Closings
+pub mod CountedSeats
 pub mod Gathered
 pub mod Laws
 pub mod Nodes
+pub mod Noted
 pub mod Openings
 pub mod Ran
 pub mod Scheduled

@@ -2,8 +2,8 @@
 -- pool was open.
 use Rattle.std.specs.Prelude.{◌≡◌, ℕ, ◌<◌, ◌==◌, ◌⊎◌, Bool, true, false, not, replicate}
 use Rattle.std.specs.Prelude.{slice_set, slice_index_or}
-use Rattle.worker_pool.specs.declared.working.job_queue.seen.Seen.{Seen}
-use Rattle.worker_pool.specs.declared.working.job_queue.seen.TheConstants.{ROWS}
+use Rattle.worker_pool.specs.declared.queues.job_queue.seen.Seen.{Seen}
+use Rattle.worker_pool.specs.declared.queues.job_queue.seen.TheConstants.{ROWS}
 use Rattle.worker_pool.specs.Stops.{open_word, cancelled_word}
 
 -- the worker has looked at nothing

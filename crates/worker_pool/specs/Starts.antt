@@ -37,13 +37,13 @@ module _ {X : Type 0} where
 module _ {S X A B : Type 0} (is_at_work : S → X → Type 0) where
   -- The workers are at work, no state has come home, and there is room for all states. The opening
   -- may begin with any number of workers that can still be started.
-  pub record IsToRun (may_begin : B → S → ℕ → Type 0) (workplace : S) (states : Vec X A)
+  pub record IsToRun (may_begin : B → ℕ → Type 0) (workplace : S) (states : Vec X A)
       (ended : Vec (Home X) A) (started : ℕ) (opening : B) : Type 0 where
     pub at_work : All (is_at_work workplace) states.items
     pub none_ended : ended.items ≡ []
     pub few : started + vec_len states ≤ most_rows
     pub room : vec_len states ≤ vec_capacity ended
-    pub begins : (count : ℕ) → count ≤ started + vec_len states → may_begin opening workplace count
+    pub begins : (count : ℕ) → count ≤ started + vec_len states → may_begin opening count
 
 module _ {S X : Type 0} (is_at_work : S → X → Type 0) (has_ended : S → X → X → Type 0) where
   -- A worker that was at work is still at work. It has ended, or it has the token of its number and
@@ -69,11 +69,11 @@ module _ {S X : Type 0} (is_at_work : S → X → Type 0) (has_ended : S → X �
   -- All workers came home, by number. For each of them a thread was asked for. The opening has
   -- ended. The number of started workers that it saw is `started` plus the number of joined
   -- threads.
-  pub record HasRun {A B D : Type 0} (has_left : B → S → ℕ → D → Type 0) (workplace : S)
+  pub record HasRun {A B D : Type 0} (has_left : B → ℕ → D → Type 0) (workplace : S)
       (states : Vec X A) (ended : Vec (Home X) A) (started : ℕ) (opening : B)
       (result : Vec (Home X) A × D) : Type 0 where
     pub home : AllZip (ComesHome workplace) states.items result.0.items
     pub asked : All (λ home. was_asked home.start ≡ true) result.0.items
     pub all : vec_len result.0 ≡ vec_len states
     pub capacity : vec_capacity result.0 ≡ vec_capacity ended
-    pub left : has_left opening workplace (started + joined_of result.0.items) result.1
+    pub left : has_left opening (started + joined_of result.0.items) result.1

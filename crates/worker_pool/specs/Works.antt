@@ -1,41 +1,43 @@
 -- What a worker works with, and what it has done.
-use Rattle.std.specs.Prelude.{◌≡◌, ℕ, ◌≤◌, [], Option, IfSome, false}
-use Rattle.event_count.specs.declared.wait_point.WaitPoint as wait_point
-use Rattle.run_queue.specs.declared.rows.Rows as rows
+use Rattle.std.specs.Prelude.{◌≡◌, ℕ, ◌<◌, ◌≤◌, [], Option, IfSome}
 use Rattle.worker_pool.specs.declared.job.Job as job
+use Rattle.worker_pool.specs.declared.queues.queue.Queue as queue
 use Rattle.worker_pool.specs.declared.working.home_rows.HomeRows.{HomeRows}
 use Rattle.worker_pool.specs.declared.working.pool.Pool.{Pool}
 use Rattle.worker_pool.specs.declared.working.worker.WorkerState.{WorkerState}
 use Rattle.worker_pool.specs.Accounts.{Account}
-use Rattle.worker_pool.specs.Seats.{IsOwner}
 use Rattle.worker_pool.specs.Laws.{law_of}
-use Rattle.worker_pool.specs.Seen.{MayEnd}
-use Rattle.worker_pool.specs.Stops.{IsStopSeatOf, stored_of, found_of, open_word}
+use Rattle.worker_pool.specs.Setup.{IsPoolSize}
+use Rattle.worker_pool.specs.Stops.{open_word}
 
 -- the partition, if there is one, ends inside a pool of this many workers
 abbrev pub IsInside : {A : Type 0} → (workers : ℕ) → Option (HomeRows A) → Type 0
 IsInside workers home = IfSome home (λ n. n.rows.limit ≤ workers)
 
-module _ {J A W R C O N T S : Type 0} (row : rows.Ghosts R J A S) (point : wait_point.Ghosts W A T)
-    (law : job.Ghosts J A C O N) where
-  -- The worker's seats belong to the pool. The worker has woken another since it last put a job in,
-  -- and has stored nothing in the stop word. It has the account of the jobs that it took: some jobs
-  -- were put into its row, and the others ran.
-  pub record IsAtWork (pool : Pool J A W R) (ctx : C) (state : WorkerState J A W R C O N T S)
-      : Type 0 where
-    pub seats : IsOwner row point pool.queue state.seats.row state.seats.waker
-    pub silent : state.seats.announcing ≡ false
-    pub stop_seat : IsStopSeatOf pool.stop.shared state.stop
-    pub stored_none : stored_of state.stop ≡ open_word
-    pub home : IsInside pool.queue.workers state.home
-    pub walks : pool.coprimes ≡ pool.queue.workers
-    pub account : Account row.keeps_accounts (law_of law ctx)
-        (row.takes_of state.seats.row) (row.puts_of state.seats.row) state.outs.items []
+-- the pool has the stop of its queue, and the coprimes for walks over all rows
+pub record IsPool {J A Q B D S P : Type 0} (at : queue.Ghosts Q J A B D S P)
+    (pool : Pool J A Q B D S P) : Type 0 where
+  pub size : IsPoolSize (at.worker_count pool.queue)
+  pub stop : at.has_stop pool.queue pool.stop
+  pub walks : pool.coprimes ≡ at.worker_count pool.queue
+
+module _ {J A Q C O N B D S P : Type 0} (at : queue.Ghosts Q J A B D S P) where
+  -- The worker's seat belongs to the pool, and the worker has stored nothing in the stop word. It
+  -- has the account of the jobs that it took: some jobs were put into its row, and the others ran.
+  pub record IsAtWork (law : job.Ghosts J A C O N) (pool : Pool J A Q B D S P) (ctx : C)
+      (state : WorkerState J A Q C O N B D S P) : Type 0 where
+    pub of_pool : IsPool at pool
+    pub ready : at.is_ready pool.queue state.seat
+    pub owner : at.row_number (at.row_of state.seat) < at.worker_count pool.queue
+    pub stored_none : at.stored_of state.seat ≡ open_word
+    pub home : IsInside (at.worker_count pool.queue) state.home
+    pub account : Account at.keeps_accounts (law_of law ctx)
+        (at.takes_of (at.row_of state.seat)) (at.puts_of (at.row_of state.seat)) state.outs.items []
         state.refused
 
--- The worker has ended, and its number is unchanged. It had found the pool cancelled, or it had
--- found the pool closing and since then each row empty.
-pub record HasEnded {J A W R C O N T S : Type 0} (row : rows.Ghosts R J A S) (pool : Pool J A W R)
-    (before after : WorkerState J A W R C O N T S) : Type 0 where
-  pub number : after.number ≡ before.number
-  pub may_end : MayEnd (row.row_count pool.queue.rows) after.seats.seen (found_of after.stop)
+  -- The worker has ended, and its number is unchanged. It had found the pool cancelled, or it had
+  -- found the pool closing and since then each row empty.
+  pub record HasEnded (pool : Pool J A Q B D S P) (before after : WorkerState J A Q C O N B D S P)
+      : Type 0 where
+    pub number : after.number ≡ before.number
+    pub may_end : at.may_end pool.queue after.seat

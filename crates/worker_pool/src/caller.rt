@@ -1,22 +1,19 @@
 //! The caller: what the body of a pool schedules and cancels by. `specs/Callers` says what stays
-//! true of a caller; `opening/opener_state.rt` makes it and takes it apart.
+//! true of a caller; `opening/lending.rt` makes it and takes it apart.
 ghost use Rattle.std.specs.Prelude.{◌≡◌, ◌≤◌, [], ◌∷◌, ◌++◌};
 ghost use Rattle.worker_pool.specs.Callers.{IsCaller, StaysCaller, IsCancelled, roots_of};
 ghost use Rattle.worker_pool.specs.Callers.{started_of, workers_of, stop_of};
-ghost use Rattle.worker_pool.specs.Scheduled.{scheduled_in, row_in, waker_in};
 
 use crate::job::Job;
 use crate::lists::Lists;
+use crate::opening::opener_state;
 use crate::opening::opener_state::OpenerState;
-use crate::working::job_queue::JobQueue;
-use crate::working::passes::Passes;
-use crate::working::run::begin;
-use crate::working::stop;
-use crate::working::stop::{StopSeat, StopWord};
+use crate::queues::job_queue::JobQueue;
+use crate::queues::job_queue::job_seat::JobSeat;
+use crate::queues::job_queue::stop::StopWord;
 use event_count::WaitPoint;
 use run_queue::Rows;
 use std::alloc::Allocator;
-use std::snapshot::Snapshot;
 use std::sync::Wait;
 
 /// The handle that a pool lends to its body, which schedules jobs through it.
@@ -29,19 +26,10 @@ pub struct Caller<
     L: Lists<J::Out, A>,
 > {
     pub(crate) queue: &'p JobQueue<W, R>,
-    pub(crate) stop: &'p StopWord<J>,
+    pub(crate) stop: &'p StopWord,
     pub(crate) alloc: &'p A,
     pub(crate) ctx: &'p J::Ctx,
-    pub(crate) opener: OpenerState<J, A, W, R, L>,
-}
-
-/// What a caller has scheduled, and its seats at the rows and at the wait point. It takes no memory:
-/// contracts alone see it.
-#[derive(Drop)]
-pub struct Scheduled<J, S, T> {
-    stop_seat: Snapshot<StopSeat<J>>,
-    row: Snapshot<S>,
-    waker: Snapshot<T>,
+    pub(crate) opener: OpenerState<J, A, JobSeat<J, A, W, R>, L>,
 }
 
 impl<'p, J, A, W, R, L> Caller<'p, J, A, W, R, L>
@@ -60,20 +48,10 @@ where
         ensures more { roots_of self.new ≡ roots_of self.old ++ job ∷ [] }
         ensures stop { stop_of self.new ≡ stop_of self.old }
     {
-        stop::note(self.stop, &mut self.opener.stop_seat, &job);
-        let Err(job) = self.opener.seats.pass(rt, self.queue, job) else {
-            return;
-        };
-        let refused = begin::<_, _, _, L, _>(
-            rt,
-            self.alloc,
-            self.ctx,
-            self.queue,
-            &mut self.opener.seats,
-            &mut self.opener.outs,
-            job,
+        let opener = &mut self.opener;
+        opener_state::schedule::<_, _, _, JobQueue<W, R>, L>(
+            rt, self.queue, self.alloc, self.ctx, opener, job,
         );
-        self.opener.refused = self.opener.refused.saturating_add(refused);
     }
 
     /// Cancels the pool: each worker ends before its next turn. Jobs can still be scheduled. The
@@ -84,23 +62,9 @@ where
         ensures same { roots_of self.new ≡ roots_of self.old }
         ensures cancelled { IsCancelled self.new }
     {
-        let opener = &mut self.opener;
-        stop::set(self.stop, &mut opener.stop_seat, true);
-        opener.cancelled = true;
-        opener.told = opener.seats.wake_all(rt, self.queue, &opener.stop_seat);
-    }
-
-    /// Returns what was scheduled through this caller so far.
-    pub fn scheduled(&self) -> Scheduled<J, R::Seat, W::Seat>
-        ensures jobs { scheduled_in result ≡ roots_of self.now }
-        ensures row { row_in result ≡ self.now.opener.seats.row }
-        ensures waker { waker_in result ≡ self.now.opener.seats.waker }
-    {
-        Scheduled {
-            stop_seat: Snapshot::of(&self.opener.stop_seat),
-            row: Snapshot::of(&self.opener.seats.row),
-            waker: Snapshot::of(&self.opener.seats.waker),
-        }
+        self.opener.cancelled = true;
+        let seat = &mut self.opener.seats.seat;
+        seat.tell_all(rt, self.queue, self.stop, true);
     }
 
     /// Returns how many workers were started, which is at most the number of the setup.

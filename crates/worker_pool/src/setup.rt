@@ -1,6 +1,6 @@
 //! How a pool is set up: its number of workers and their partitions. `PoolFault` reaches callers of
 //! `parallel_for` too. `specs/Setup` has the limits.
-ghost use Rattle.std.specs.Prelude.{◌≡◌, ◌<◌, ◌↔◌, ◌⊎◌, false, IsTrue, IsOk, IsErrOf};
+ghost use Rattle.std.specs.Prelude.{◌≡◌, ◌<◌, ◌↔◌, false, IsTrue, IsOk, IsErrOf};
 ghost use Rattle.worker_pool.specs.Setup.{IsPoolSize, IsNoPoolSize, ArePartitions};
 ghost use Rattle.worker_pool.specs.Setup.{AreNoPartitions};
 

@@ -1,10 +1,7 @@
 //! What workers do, and what they share. A list of modules.
 
 pub(crate) mod home_rows;
-pub(crate) mod job_queue;
 pub(crate) mod passes;
 pub(crate) mod pool;
 pub(crate) mod run;
-pub(crate) mod stop;
-pub(crate) mod stop_view;
 pub(crate) mod worker;

@@ -1,31 +1,36 @@
 //! How the thread that closes a pool passes jobs on: it passes on none, and runs each kid at once.
 ghost use Rattle.std.specs.Prelude.{[]};
 
+use crate::queues::queue::Queue;
 use crate::working::passes::Passes;
-use run_queue::Rows;
 use std::alloc::Allocator;
 use std::marker::PhantomData;
 use std::sync::Wait;
 
-/// The thread that closes a pool. It has no rows any more to pass jobs on to.
-#[derive(Drop)]
-pub(crate) struct Closer<J, A: Allocator, R: Rows<J, A>>(pub(crate) PhantomData<(J, A, R)>);
+/// The closer's way: it has no rows any more to pass jobs on to.
+pub(crate) struct ByCloser<A, Q>(PhantomData<(A, Q)>);
 
-impl<J, A: Allocator, R: Rows<J, A>> Passes<J> for Closer<J, A, R> {
+impl<J, A: Allocator, Q: Queue<J, A>> Passes<J> for ByCloser<A, Q> {
     type Place = ();
+
+    type Passer = ();
 
     ghost is_ready = { λ _ _. Unit {0} };
 
-    ghost number_of = { λ _. 0 };
+    ghost has_taker = { λ _. ⊥ };
 
-    ghost keeps_accounts = { R.keeps_accounts };
+    ghost Kept = { Unit {0} };
+
+    ghost kept_of = { λ _. tt };
+
+    ghost keeps_accounts = { Q.keeps_accounts };
 
     ghost puts_of = { λ _. [] };
 
     ghost takes_of = { λ _. [] };
 
     /// Returns each job.
-    fn pass<RT: Wait>(&mut self, _rt: &RT, _place: &(), job: J) -> Result<(), J> {
+    fn pass<RT: Wait>(_rt: &RT, _place: &(), _closer: &mut (), job: J) -> Result<(), J> {
         Err(job)
     }
 }

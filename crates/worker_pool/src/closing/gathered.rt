@@ -3,33 +3,30 @@
 ghost use Rattle.std.specs.Prelude.{◌≡◌, ℕ, ◌+◌, [], vec_capacity, IfOk};
 
 use crate::job::Job;
+use crate::queues::queue::Queue;
 use crate::working::worker::WorkerState;
-use event_count::WaitPoint;
-use run_queue::Rows;
 use std::alloc::{AllocError, Allocator};
 
 /// The seats of the workers that have come home, the outs of their jobs, and how many jobs were
 /// refused.
 #[derive(Drop)]
-pub(crate) struct Gathered<J, A, W, R>
+pub(crate) struct Gathered<J, A, Q>
 where
     J: Job<A>,
     A: Allocator,
-    W: WaitPoint<A>,
-    R: Rows<J, A>,
+    Q: Queue<J, A>,
 {
-    pub(crate) rows: Vec<R::Seat, A>,
-    pub(crate) wakers: Vec<W::Seat, A>,
+    pub(crate) rows: Vec<Q::Row, A>,
+    pub(crate) wakers: Vec<Q::Waker, A>,
     pub(crate) lists: Vec<Vec<J::Out, A>, A>,
     pub(crate) refused: u64,
 }
 
-impl<J, A, W, R> Gathered<J, A, W, R>
+impl<J, A, Q> Gathered<J, A, Q>
 where
     J: Job<A>,
     A: Allocator + Clone,
-    W: WaitPoint<A>,
-    R: Rows<J, A>,
+    Q: Queue<J, A>,
 {
     ghost use Rattle.worker_pool.specs.Gathered.{Adds, HasRoom, IsEmpty};
 
@@ -46,20 +43,22 @@ where
         })
     }
 
-    /// Adds a worker that comes home with this state.
-    pub(crate) fn add(&mut self, state: WorkerState<J, A, W, R>)
+    /// Adds a worker that comes home to this queue with this state.
+    pub(crate) fn add(&mut self, queue: &Q, state: WorkerState<J, A, Q>)
+        requires ready { Q.is_ready queue.now state.seat }
         requires room { HasRoom 1 self.old }
-        ensures adds { Adds state self.old self.new }
+        ensures adds { Adds Q.Queue queue.now state self.old self.new }
         ensures room { (more : ℕ) → HasRoom (more + 1) self.old → HasRoom more self.new }
     {
         let WorkerState {
-            seats,
+            seat,
             outs,
             refused,
             ..
         } = state;
-        self.rows.push_reserved(seats.row);
-        self.wakers.push_reserved(seats.waker);
+        let (row, waker) = queue.parts(seat);
+        self.rows.push_reserved(row);
+        self.wakers.push_reserved(waker);
         self.lists.push_reserved(outs);
         self.refused = self.refused.saturating_add(refused);
     }

@@ -33,23 +33,22 @@ pub(crate) trait Workplace<X> {
 }
 
 /// The work of the opening thread while the workers work.
-pub(crate) trait Opening<S> {
+pub(crate) trait Opening {
     ghost use Rattle.std.specs.Prelude.{ℕ};
 
     /// The state that the opening thread has afterwards.
     type State;
 
-    // The work may begin at this workplace, where the given number of workers were started.
-    ghost may_begin: { Self → S → ℕ → Type 0 };
+    // The work may begin where the given number of workers were started.
+    ghost may_begin: { Self → ℕ → Type 0 };
 
-    // The work has ended at this workplace, where the given number of workers were started, and
-    // left this state.
-    ghost has_left: { Self → S → ℕ → Self.State → Type 0 };
+    // The work has ended where the given number of workers were started, and left this state.
+    ghost has_left: { Self → ℕ → Self.State → Type 0 };
 
     /// Does the work, and lets the workers end.
-    fn run(self, workplace: &S, started: u32) -> Self::State
-        requires { may_begin self workplace.now started }
-        ensures { has_left self workplace.now started result };
+    fn run(self, started: u32) -> Self::State
+        requires { may_begin self started }
+        ensures { has_left self started result };
 }
 
 /// The promise of a worker's thread: a worker that began in this state has ended at this workplace.
@@ -82,13 +81,13 @@ where
     X: Send + Drop,
     A: Allocator,
     S: Workplace<X> + Sync,
-    B: Opening<S> + Drop,
+    B: Opening + Drop,
     requires at_work { All (S.is_at_work workplace.now) states.items }
     requires few { vec_len states ≤ most_rows }
     requires none_ended { ended.items ≡ [] }
     requires room { vec_len states ≤ vec_capacity ended }
     requires begins { (started : ℕ) → started ≤ vec_len states → started ≤ starts
-        → B.may_begin opening workplace.now started }
+        → B.may_begin opening started }
     ensures home { AllZip (ComesHome S.is_at_work S.has_ended workplace.now) states.items
         result.0.items }
     ensures at_work { All (λ home. S.is_at_work workplace.now home.state) result.0.items }
@@ -96,7 +95,7 @@ where
     ensures all { vec_len result.0 ≡ vec_len states }
     ensures capacity { vec_capacity result.0 ≡ vec_capacity ended }
     ensures few { joined_of result.0.items ≤ starts }
-    ensures left { B.has_left opening workplace.now (joined_of result.0.items) result.1 }
+    ensures left { B.has_left opening (joined_of result.0.items) result.1 }
 {
     if states.len() > starts as usize {
         let Some(last) = states.pop() else {
@@ -134,13 +133,13 @@ where
     X: Send + Drop + 's,
     A: Allocator,
     S: Workplace<X> + Sync,
-    B: Opening<S> + Drop,
+    B: Opening + Drop,
     requires { IsToRun S.is_at_work B.may_begin workplace.now states ended started opening }
     ensures { HasRun S.is_at_work S.has_ended B.has_left workplace.now states ended started opening
         result }
 {
     let Some(next) = states.pop() else {
-        return (ended, opening.run(workplace, started));
+        return (ended, opening.run(started));
     };
     match Stack::new().stack_size(STACK).spawn_scoped_with(
         scope,

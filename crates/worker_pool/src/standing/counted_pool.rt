@@ -1,23 +1,20 @@
 //! A standing pool whose rows and wait point stand on one event count, so that the law
 //! `jobs_are_not_slept_on` of `waking_rows` speaks of it.
 ghost use Rattle.std.specs.Prelude.{◌≡◌, ◌↔◌, [], IfOk, IsErrOf};
-ghost use Rattle.waking_rows.specs.Points.{count_at};
-ghost use Rattle.waking_rows.specs.Seats.{place_of};
 ghost use Rattle.worker_pool.specs.Setup.{IsPoolSize, IsNoPoolSize, AreNoPartitions};
-ghost use Rattle.worker_pool.specs.Standing.{roots_in, ctx_of, queue_in, workers_in};
+ghost use Rattle.worker_pool.specs.Standing.{roots_in, ctx_of, queue_in};
 
 use crate::job::Job;
 use crate::lists::VecLists;
-use crate::opening::opens::OverOneCount;
+use crate::queues::counted_queue::CountedQueue;
 use crate::setup::{PoolFault, Setup};
 use crate::standing::standing_pool::{StandingPool, Stands};
 use std::alloc::Allocator;
 use std::sync::Wait;
 use std::thread::Threads;
-use waking_rows::{RowPoint, WakingRows};
 
 /// A standing pool over one event count: no job lies forgotten in a row while all workers sleep.
-pub type CountedPool<J, A> = StandingPool<J, A, RowPoint<A>, WakingRows<J, A>, VecLists>;
+pub type CountedPool<J, A> = StandingPool<J, A, CountedQueue<J, A>, VecLists>;
 
 /// Opens a pool over one event count. A worker whose thread cannot be started takes no part.
 pub fn open_counted<RT, J, A>(
@@ -38,11 +35,9 @@ where
         ↔ (IsPoolSize setup.now.workers
         × AreNoPartitions setup.now.workers setup.now.partitions.items) }
     ensures standing { IfOk result ⟦<CountedPool<J, A> as Stands>⟧.is_standing }
-    ensures one_count { IfOk result (λ pool.
-        (place_of (queue_in pool).rows).1 ≡ count_at (queue_in pool).point) }
     ensures no_roots { IfOk result (λ pool. roots_in pool ≡ []) }
     ensures ctx { IfOk result (λ pool. ctx_of pool ≡ ctx) }
-    ensures workers { IfOk result (λ pool. workers_in pool ≡ setup.now.workers) }
+    ensures workers { IfOk result (λ pool. (queue_in pool).workers ≡ setup.now.workers) }
 {
-    StandingPool::open_by::<RT, OverOneCount>(rt, alloc, setup, ctx)
+    StandingPool::open(rt, alloc, setup, ctx)
 }

@@ -7,18 +7,13 @@ use crate::closing::gathered::{Gathered, room};
 use crate::job::Job;
 use crate::lists::Lists;
 use crate::opening::open::{Opened, open};
-use crate::opening::opener_state::OpenerState;
-use crate::opening::opens::{Apart, Opens};
+use crate::opening::opener_state::{OpenerState, end, schedule};
 use crate::opening::start::Home;
+use crate::queues::queue::Queue;
 use crate::setup::{PoolFault, Setup};
 use crate::standing::owned_pool::OwnedPool;
 use crate::standing::threads::{SharedWorkplace, WorkerThread, join_all, start_each, take_back};
-use crate::working::passes::Passes;
-use crate::working::run::begin;
-use crate::working::stop;
 use crate::working::worker::WorkerState;
-use event_count::WaitPoint;
-use run_queue::Rows;
 use std::alloc::{AllocError, Allocator};
 use std::sync::{Arc, Wait};
 use std::thread::Threads;
@@ -31,34 +26,34 @@ use std::thread::Threads;
 /// 4,000,000 jobs were put into its rows, kids included, and open another: a worker that has slept
 /// 4,194,304 times never sleeps again, and keeps a processor busy.
 #[derive(Drop)]
-pub struct StandingPool<J, A, W, R, L>
+pub struct StandingPool<J, A, Q, L>
 where
     J: Job<A>,
     J::Ctx: Drop,
     A: Allocator + Clone,
-    W: WaitPoint<A>,
-    R: Rows<J, A>,
+    Q: Queue<J, A>,
     L: Lists<J::Out, A>,
 {
-    shared: Arc<SharedWorkplace<OwnedPool<J, A, W, R>>, A>,
-    opener: OpenerState<J, A, W, R, L>,
-    threads: Vec<WorkerThread<OwnedPool<J, A, W, R>, WorkerState<J, A, W, R>>, A>,
+    shared: Arc<SharedWorkplace<OwnedPool<J, A, Q>>, A>,
+    opener: OpenerState<J, A, Q::Seat, L>,
+    threads: Vec<WorkerThread<OwnedPool<J, A, Q>, WorkerState<J, A, Q>>, A>,
     /// The states of the workers whose threads could not be started, with room for all workers.
-    ended: Vec<Home<WorkerState<J, A, W, R>>, A>,
-    gathered: Gathered<J, A, W, R>,
+    ended: Vec<Home<WorkerState<J, A, Q>>, A>,
+    gathered: Gathered<J, A, Q>,
 }
 
-impl<J, A, W, R, L> StandingPool<J, A, W, R, L>
+impl<J, A, Q, L> StandingPool<J, A, Q, L>
 where
     J: Job<A> + Drop + Send + 'static,
     J::Ctx: Drop + Send + Sync + 'static,
     J::Out: Send + 'static,
     J::Abandoned: Send + 'static,
     A: Allocator + Clone + Send + Sync + 'static,
-    W: WaitPoint<A> + Send + Sync + 'static,
-    W::Seat: Send + 'static,
-    R: Rows<J, A> + Send + Sync + 'static,
-    R::Seat: Send + 'static,
+    Q: Queue<J, A> + Send + Sync + 'static,
+    Q::Row: Send + 'static,
+    Q::Waker: Send + 'static,
+    Q::Seat: Send + 'static,
+    Q::Stop: Send + Sync + 'static,
     L: Lists<J::Out, A>,
 {
     ghost use Rattle.std.specs.Prelude.{◌≡◌, ◌+◌, ◌≤◌, ◌↔◌, [], ◌∷◌, ◌++◌, vec_len, IfOk};
@@ -69,10 +64,9 @@ where
     ghost use Rattle.worker_pool.specs.Openings.{IsOpened};
     ghost use Rattle.worker_pool.specs.Setup.{IsPoolSize, IsNoPoolSize, AreNoPartitions};
     ghost use Rattle.worker_pool.specs.Standing.{IsStanding, IsOnePool, roots_in, ctx_of};
-    ghost use Rattle.worker_pool.specs.Standing.{queue_in, workers_in, started_in};
+    ghost use Rattle.worker_pool.specs.Standing.{queue_in, started_in};
 
-    /// Opens a pool, whose rows and wait point are opened separately. A worker whose thread cannot
-    /// be started takes no part.
+    /// Opens a pool. A worker whose thread cannot be started takes no part.
     pub fn open<RT>(rt: &RT, alloc: A, setup: &Setup<A>, ctx: J::Ctx) -> Result<Self, PoolFault>
     where
         RT: Threads + Wait + Copy + Send + 'static,
@@ -81,37 +75,13 @@ where
         ensures bad_partition { IsErrOf result PoolFault.BadPartition
             ↔ (IsPoolSize setup.now.workers
             × AreNoPartitions setup.now.workers setup.now.partitions.items) }
-        ensures standing { IfOk result (IsStanding R.Rows W.WaitPoint J.Job L.Lists) }
+        ensures standing { IfOk result (IsStanding Q.Queue J.Job L.Lists) }
         ensures no_roots { IfOk result (λ pool. roots_in pool ≡ []) }
         ensures ctx { IfOk result (λ pool. ctx_of pool ≡ ctx) }
-        ensures workers { IfOk result (λ pool. workers_in pool ≡ setup.now.workers) }
+        ensures workers { IfOk result (λ pool.
+            Q.worker_count (queue_in pool) ≡ setup.now.workers) }
     {
-        Self::open_by::<RT, Apart>(rt, alloc, setup, ctx)
-    }
-
-    /// Does what `open` does, with the rows and the wait point that `O` opens.
-    pub(crate) fn open_by<RT, O>(
-        rt: &RT,
-        alloc: A,
-        setup: &Setup<A>,
-        ctx: J::Ctx,
-    ) -> Result<Self, PoolFault>
-    where
-        RT: Threads + Wait + Copy + Send + 'static,
-        O: Opens<J, A, W, R>,
-        ensures bad_workers { IsErrOf result PoolFault.BadWorkers
-            ↔ IsNoPoolSize setup.now.workers }
-        ensures bad_partition { IsErrOf result PoolFault.BadPartition
-            ↔ (IsPoolSize setup.now.workers
-            × AreNoPartitions setup.now.workers setup.now.partitions.items) }
-        ensures standing { IfOk result (IsStanding R.Rows W.WaitPoint J.Job L.Lists) }
-        ensures joined { IfOk result (λ pool.
-            O.joins (queue_in pool).rows (queue_in pool).point) }
-        ensures no_roots { IfOk result (λ pool. roots_in pool ≡ []) }
-        ensures ctx { IfOk result (λ pool. ctx_of pool ≡ ctx) }
-        ensures workers { IfOk result (λ pool. workers_in pool ≡ setup.now.workers) }
-    {
-        let opened = open::<J, A, W, R, L, O>(alloc, setup)?;
+        let opened = open::<J, A, Q, L>(alloc, setup)?;
         Ok(Self::start_workers(rt, setup, opened, ctx)?)
     }
 
@@ -119,14 +89,14 @@ where
     fn start_workers<RT>(
         rt: &RT,
         setup: &Setup<A>,
-        opened: Opened<J, A, W, R, L>,
+        opened: Opened<J, A, Q, L>,
         ctx: J::Ctx,
     ) -> Result<Self, AllocError>
     where
         RT: Threads + Wait + Copy + Send + 'static,
-        requires opened { IsOpened R.Rows W.WaitPoint setup.now.partitions.items J.Job L.Lists
+        requires opened { IsOpened Q.Queue setup.now.partitions.items J.Job L.Lists
             setup.now.workers opened }
-        ensures standing { IfOk result (IsStanding R.Rows W.WaitPoint J.Job L.Lists) }
+        ensures standing { IfOk result (IsStanding Q.Queue J.Job L.Lists) }
         ensures queue { IfOk result (λ pool. queue_in pool ≡ opened.pool.queue) }
         ensures no_roots { IfOk result (λ pool. roots_in pool ≡ []) }
         ensures ctx { IfOk result (λ pool. ctx_of pool ≡ ctx) }
@@ -158,33 +128,21 @@ where
     /// Schedules a job. It goes to the back of a row that a random word picks, and one worker is
     /// woken. If the row is full, or no worker was started, the job runs at once on this thread.
     pub fn schedule<RT: Wait>(&mut self, rt: &RT, job: J)
-        requires { IsStanding R.Rows W.WaitPoint J.Job L.Lists self.old }
-        ensures standing { IsStanding R.Rows W.WaitPoint J.Job L.Lists self.new }
+        requires { IsStanding Q.Queue J.Job L.Lists self.old }
+        ensures standing { IsStanding Q.Queue J.Job L.Lists self.new }
         ensures same { IsOnePool self.old self.new }
         ensures more { roots_in self.new ≡ roots_in self.old ++ job ∷ [] }
     {
         let owned = &self.shared.place;
-        stop::note(&owned.pool.stop.shared, &mut self.opener.stop_seat, &job);
-        let Err(job) = self.opener.seats.pass(rt, &owned.pool.queue, job) else {
-            return;
-        };
-        let refused = begin::<_, _, _, L, _>(
-            rt,
-            &owned.pool.alloc,
-            &owned.ctx,
-            &owned.pool.queue,
-            &mut self.opener.seats,
-            &mut self.opener.outs,
-            job,
-        );
-        self.opener.refused = self.opener.refused.saturating_add(refused);
+        let (pool, opener) = (&owned.pool, &mut self.opener);
+        schedule::<_, _, _, Q, L>(rt, &pool.queue, &pool.alloc, &owned.ctx, opener, job);
     }
 
     /// Returns how many workers were started, which is at most the number of the setup.
     pub fn workers(&self) -> u32
-        requires { IsStanding R.Rows W.WaitPoint J.Job L.Lists self.now }
+        requires { IsStanding Q.Queue J.Job L.Lists self.now }
         ensures started { result ≡ started_in self.now }
-        ensures few { result ≤ workers_in self.now }
+        ensures few { result ≤ Q.worker_count (queue_in self.now) }
     {
         self.opener.seats.started
     }
@@ -192,9 +150,9 @@ where
     /// Closes the pool once all jobs that were scheduled in it have run, and returns what they
     /// left.
     pub fn close<RT: Threads + Wait>(self, rt: &RT) -> Closed<J, A>
-        requires { IsStanding R.Rows W.WaitPoint J.Job L.Lists self }
-        ensures lists { vec_len result.outs ≡ workers_in self + 1 }
-        ensures account { Account R.keeps_accounts (law_of J.Job (ctx_of self))
+        requires { IsStanding Q.Queue J.Job L.Lists self }
+        ensures lists { vec_len result.outs ≡ Q.worker_count (queue_in self) + 1 }
+        ensures account { Account Q.keeps_accounts (law_of J.Job (ctx_of self))
             (roots_in self) [] (all_outs result.outs) result.left.items result.refused }
         ensures none_left { result.left.items ≡ [] }
     {
@@ -205,8 +163,14 @@ where
             ended,
             gathered,
         } = self;
-        opener.end(rt, &shared.place.pool);
-        let homes = join_all(rt, &opener.told, threads, ended);
+        end::<_, _, _, Q, L>(rt, &shared.place.pool, &mut opener);
+        let homes = join_all::<_, _, _, _, J, Q>(
+            rt,
+            &shared.place.pool.queue,
+            &opener.seats.seat,
+            threads,
+            ended,
+        );
         let OwnedPool { pool, ctx } = take_back(rt, shared).place;
         close(rt, pool, &ctx, opener, homes, gathered)
     }
@@ -219,16 +183,15 @@ pub trait Stands {
     ghost is_standing: { Self → Type 0 };
 }
 
-impl<J, A, W, R, L> Stands for StandingPool<J, A, W, R, L>
+impl<J, A, Q, L> Stands for StandingPool<J, A, Q, L>
 where
     J: Job<A>,
     J::Ctx: Drop,
     A: Allocator + Clone,
-    W: WaitPoint<A>,
-    R: Rows<J, A>,
+    Q: Queue<J, A>,
     L: Lists<J::Out, A>,
 {
     ghost use Rattle.worker_pool.specs.Standing.{IsStanding};
 
-    ghost is_standing = { IsStanding R.Rows W.WaitPoint J.Job L.Lists };
+    ghost is_standing = { IsStanding Q.Queue J.Job L.Lists };
 }

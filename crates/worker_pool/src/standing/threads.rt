@@ -1,15 +1,14 @@
 //! Starting workers whose threads own their workplace together, joining these threads, and taking
-//! the workplace back. It knows nothing of pools but `Told`, by which no thread is joined before
-//! all workers were woken to end. `opening/start.rt` does the same for threads of one call.
+//! the workplace back. It knows nothing of pools but the opener's seat, by which no thread is
+//! joined before all workers were woken to end. `opening/start.rt` does the same for threads of one call.
 ghost use Rattle.std.specs.Prelude.{◌≡◌, ◌≢◌, ◌+◌, ◌≤◌, All, IfOk, IfErr, vec_len, vec_capacity};
 ghost use Rattle.std.specs.Arc.{arc_value};
 ghost use Rattle.worker_pool.specs.Starts.{Returns};
 ghost use Rattle.worker_pool.specs.Stops.{open_word};
-ghost use Rattle.worker_pool.specs.Told.{told_of};
 
 use crate::opening::start::{Home, STACK, Workplace};
+use crate::queues::queue::Queue;
 use crate::standing::left_out::{LeftOut, LeftOutBox};
-use crate::working::job_queue::Told;
 use core::thread::Stack;
 use std::alloc::Allocator;
 use std::snapshot::Snapshot;
@@ -147,11 +146,12 @@ where
     }
 }
 
-/// Joins all threads, and adds the states that their workers ended with to `ended`. Before, all
-/// workers were woken after a store of the stop word, as `told` says.
-pub(crate) fn join_all<RT, X, A, S, J>(
+/// Joins all threads, and adds the states that their workers ended with to `ended`. Before, a stop
+/// was stored and all workers were woken through the seat.
+pub(crate) fn join_all<RT, X, A, S, J, Q>(
     rt: &RT,
-    told: &Told<J>,
+    queue: &Q,
+    seat: &Q::Seat,
     mut threads: Vec<WorkerThread<S, X>, A>,
     mut ended: Vec<Home<X>, A>,
 ) -> Vec<Home<X>, A>
@@ -160,7 +160,9 @@ where
     X: Drop,
     A: Allocator,
     S: Workplace<X>,
-    requires told { told_of told.now ≢ open_word }
+    Q: Queue<J, A>,
+    requires ready { Q.is_ready queue.now seat.now }
+    requires stored { Q.stored_of seat.now ≢ open_word }
     requires room { vec_len threads + vec_len ended ≤ vec_capacity ended }
     ensures all { vec_len result ≡ vec_len threads + vec_len ended }
     ensures home { (place : _) → All (λ child. child.handle.promise.0.value ≡ place) threads.items
@@ -172,7 +174,7 @@ where
     };
     let WorkerThread { handle } = child;
     ended.push_reserved(Home::joined(rt, handle).without_token());
-    join_all(rt, told, threads, ended)
+    join_all::<_, _, _, _, J, Q>(rt, queue, seat, threads, ended)
 }
 
 /// Returns what several threads owned together, once the others have let go of it.

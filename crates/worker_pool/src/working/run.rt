@@ -17,7 +17,7 @@ pub(crate) fn begin<RT, J, A, L, P>(
     alloc: &A,
     ctx: &J::Ctx,
     place: &P::Place,
-    passer: &mut P,
+    passer: &mut P::Passer,
     outs: &mut L::List,
     job: J,
 ) -> u64
@@ -29,7 +29,7 @@ where
     P: Passes<J>,
     requires { P.is_ready place.now passer.old }
     ensures ready { P.is_ready place.now passer.new }
-    ensures number { P.number_of passer.new ≡ P.number_of passer.old }
+    ensures kept { P.kept_of passer.new ≡ P.kept_of passer.old }
     ensures takes { P.keeps_accounts → P.takes_of passer.new ≡ P.takes_of passer.old }
     ensures ran { Ran P.keeps_accounts (law_of J.Job ctx.now) job
         (P.puts_of passer.old) (P.puts_of passer.new)
@@ -39,7 +39,7 @@ where
         job.abandon(ctx);
         return 1;
     }
-    run::<_, _, _, L, _>(rt, alloc, ctx, place, passer, outs, 0, job)
+    run::<_, _, _, L, P>(rt, alloc, ctx, place, passer, outs, 0, job)
 }
 
 /// Takes steps until the job is done, and returns how many jobs were refused. A kid that is not
@@ -50,7 +50,7 @@ fn run<RT, J, A, L, P>(
     alloc: &A,
     ctx: &J::Ctx,
     place: &P::Place,
-    passer: &mut P,
+    passer: &mut P::Passer,
     outs: &mut L::List,
     owed: usize,
     job: J,
@@ -65,7 +65,7 @@ where
     requires room { length (L.items_of outs.old) + owed + 1 ≤ L.room_of outs.old }
     requires fits { L.room_of outs.old < 2 ^ 63 }
     ensures ready { P.is_ready place.now passer.new }
-    ensures number { P.number_of passer.new ≡ P.number_of passer.old }
+    ensures kept { P.kept_of passer.new ≡ P.kept_of passer.old }
     ensures takes { P.keeps_accounts → P.takes_of passer.new ≡ P.takes_of passer.old }
     ensures room { length (L.items_of outs.new) + owed ≤ L.room_of outs.new }
     ensures fits { L.room_of outs.new < 2 ^ 63 }
@@ -84,17 +84,17 @@ where
             0
         }
         Ok(Progress::Fork { kid, rest }) => {
-            let Err(kid) = passer.pass(rt, place, kid) else {
-                return run::<_, _, _, L, _>(rt, alloc, ctx, place, passer, outs, owed, rest);
+            let Err(kid) = P::pass(rt, place, passer, kid) else {
+                return run::<_, _, _, L, P>(rt, alloc, ctx, place, passer, outs, owed, rest);
             };
             if L::reserve(outs, owed + 2).is_err() {
                 kid.abandon(ctx);
-                return run::<_, _, _, L, _>(
+                return run::<_, _, _, L, P>(
                     rt, alloc, ctx, place, passer, outs, owed, rest,
                 ).saturating_add(1);
             }
-            let refused = run::<_, _, _, L, _>(rt, alloc, ctx, place, passer, outs, owed + 1, kid);
-            run::<_, _, _, L, _>(rt, alloc, ctx, place, passer, outs, owed, rest).saturating_add(
+            let refused = run::<_, _, _, L, P>(rt, alloc, ctx, place, passer, outs, owed + 1, kid);
+            run::<_, _, _, L, P>(rt, alloc, ctx, place, passer, outs, owed, rest).saturating_add(
                 refused,
             )
         }

@@ -1,44 +1,63 @@
-//! How the opener of a pool passes jobs on. The put comes before the wake, which `announcing`
-//! records. No contract of `pass` says into which row a job goes.
-ghost use Rattle.std.specs.Prelude.{◌≡◌, ℕ, ◌+◌, ◌<◌, ◌≤◌, List};
+//! How the opener of a pool passes jobs on. No contract of `pass` says into which row a job goes.
+ghost use Rattle.std.specs.Prelude.{◌≡◌, ◌<◌};
 ghost use Rattle.steal_walk.specs.Walk.{place_of};
 
-use crate::working::job_queue::{JobQueue, OpenerSeats};
+use crate::queues::queue::Queue;
 use crate::working::passes::Passes;
-use event_count::WaitPoint;
 use rand_core::utils::NextWord;
-use run_queue::Rows;
+use rand_pcg::Lcg64Xsh32;
 use std::alloc::Allocator;
+use std::marker::PhantomData;
 use std::sync::Wait;
 
-// An opener is ready if it has woken a worker for each job that it has passed on.
-impl<J, A: Allocator, W: WaitPoint<A>, R: Rows<J, A>> Passes<J> for OpenerSeats<J, A, W, R> {
-    ghost use Rattle.std.specs.Prelude.{◌≡◌, false};
-    ghost use Rattle.worker_pool.specs.Seats.{IsOpener};
+/// The opener's seat at the queue, and its random words.
+#[derive(Drop)]
+pub(crate) struct OpenerSeat<S: Drop> {
+    pub(crate) seat: S,
+    pub(crate) random: Lcg64Xsh32,
+    /// How many workers were started.
+    pub(crate) started: u32,
+}
 
-    type Place = JobQueue<W, R>;
+/// The opener's way: jobs go to the backs of rows that random words pick.
+pub(crate) struct ByOpener<A, Q>(PhantomData<(A, Q)>);
 
-    ghost is_ready = { λ queue seats. IsOpener R.Rows W.WaitPoint queue seats.row seats.waker
-        × (seats.announcing ≡ false) };
+impl<J, A: Allocator, Q: Queue<J, A>> Passes<J> for ByOpener<A, Q> {
+    ghost use Rattle.std.specs.Prelude.{ℕ};
 
-    ghost number_of = { λ seats. seats.started };
+    type Place = Q;
 
-    ghost keeps_accounts = { R.keeps_accounts };
+    type Passer = OpenerSeat<Q::Seat>;
 
-    ghost puts_of = { λ seats. R.puts_of seats.row };
+    ghost is_ready = { λ queue opener. Q.is_ready queue opener.seat
+        × (0 < Q.worker_count queue) };
 
-    ghost takes_of = { λ seats. R.takes_of seats.row };
+    // The workers that were started: nobody else takes a job out of a row.
+    ghost has_taker = { λ opener. 0 < opener.started };
 
-    /// Passes the job to the back of a row that a random word picks, and wakes a worker. Returns
-    /// the job if the row is full or no worker was started.
-    fn pass<RT: Wait>(&mut self, rt: &RT, queue: &JobQueue<W, R>, job: J) -> Result<(), J> {
-        if self.started == 0 {
+    ghost Kept = { ℕ × ℕ };
+
+    ghost kept_of = { λ opener. (opener.started, Q.stored_of opener.seat) };
+
+    ghost keeps_accounts = { Q.keeps_accounts };
+
+    ghost puts_of = { λ opener. Q.puts_of (Q.row_of opener.seat) };
+
+    ghost takes_of = { λ opener. Q.takes_of (Q.row_of opener.seat) };
+
+    /// Passes the job to the back of a row that a random word picks. Returns the job if the row is
+    /// full or no worker was started.
+    fn pass<RT: Wait>(
+        rt: &RT,
+        queue: &Q,
+        opener: &mut OpenerSeat<Q::Seat>,
+        job: J,
+    ) -> Result<(), J> {
+        if opener.started == 0 {
             return Err(job);
         }
-        let row = row_at(self.random.next_word(), queue.workers);
-        self.put_back(rt, queue, row, job)?;
-        self.wake_one(rt, queue);
-        Ok(())
+        let row = row_at(opener.random.next_word(), queue.workers());
+        queue.put_back(rt, &mut opener.seat, row, job)
     }
 }
 

@@ -1,36 +1,40 @@
-//! How a worker passes jobs on. The put comes before the wake, which `announcing` records.
-ghost use Rattle.std.specs.Prelude.{◌≡◌};
+//! How a worker passes jobs on.
+ghost use Rattle.std.specs.Prelude.{◌<◌};
 
-use crate::working::job_queue::{JobQueue, WorkerSeats};
+use crate::queues::queue::Queue;
 use crate::working::passes::Passes;
-use event_count::WaitPoint;
-use run_queue::Rows;
 use std::alloc::Allocator;
+use std::marker::PhantomData;
 use std::sync::Wait;
 
-// A worker is ready if it has woken another for each job that it has passed on.
-impl<J, A: Allocator, W: WaitPoint<A>, R: Rows<J, A>> Passes<J> for WorkerSeats<J, A, W, R> {
-    ghost use Rattle.std.specs.Prelude.{◌≡◌, false};
-    ghost use Rattle.worker_pool.specs.Seats.{IsOwner};
+/// A worker's way: jobs go to the front of its own row.
+pub(crate) struct ByWorker<A, Q>(PhantomData<(A, Q)>);
 
-    type Place = JobQueue<W, R>;
+impl<J, A: Allocator, Q: Queue<J, A>> Passes<J> for ByWorker<A, Q> {
+    ghost use Rattle.std.specs.Prelude.{ℕ};
 
-    ghost is_ready = { λ queue seats. IsOwner R.Rows W.WaitPoint queue seats.row seats.waker
-        × (seats.announcing ≡ false) };
+    type Place = Q;
 
-    ghost number_of = { λ seats. R.number_of seats.row };
+    type Passer = Q::Seat;
 
-    ghost keeps_accounts = { R.keeps_accounts };
+    ghost is_ready = { λ queue seat. Q.is_ready queue seat
+        × (Q.row_number (Q.row_of seat) < Q.worker_count queue) };
 
-    ghost puts_of = { λ seats. R.puts_of seats.row };
+    // The worker itself, in its next turn.
+    ghost has_taker = { λ _. Unit {0} };
 
-    ghost takes_of = { λ seats. R.takes_of seats.row };
+    ghost Kept = { ℕ × ℕ };
 
-    /// Passes the job to the front of the worker's own row, and wakes a worker. Returns the job if
-    /// the row is full.
-    fn pass<RT: Wait>(&mut self, rt: &RT, queue: &JobQueue<W, R>, job: J) -> Result<(), J> {
-        self.put_front(rt, queue, job)?;
-        self.wake_one(rt, queue);
-        Ok(())
+    ghost kept_of = { λ seat. (Q.row_number (Q.row_of seat), Q.stored_of seat) };
+
+    ghost keeps_accounts = { Q.keeps_accounts };
+
+    ghost puts_of = { λ seat. Q.puts_of (Q.row_of seat) };
+
+    ghost takes_of = { λ seat. Q.takes_of (Q.row_of seat) };
+
+    /// Passes the job to the front of the worker's own row. Returns the job if the row is full.
+    fn pass<RT: Wait>(rt: &RT, queue: &Q, seat: &mut Q::Seat, job: J) -> Result<(), J> {
+        queue.put_front(rt, seat, job)
     }
 }

@@ -15,26 +15,31 @@ loop-home-init g c =
     record {
       can = tt;
       finite = tt;
+      ready = All-same (λ home. g.Q.Queue.is_ready c.args.queue.now home.state.seat) _ _ all
+          c.requires.ready;
       many = omega arith;
       room = subst (λ homes. HasRoom (length homes + 1) c.args.gathered) (sym all) c.requires.room;
       home = λ pool ctx at_work. (
-        All-same (λ at. IsAtWork g.R.Rows g.W.WaitPoint g.J.Job pool ctx at.state) _ _ all at_work,
-        gathers-none _ _ _ _ _ _ c.requires.none,
+        All-same (λ home. IsAtWork g.Q.Queue g.J.Job pool ctx home.state) _ _ all at_work,
+        gathers-none _ _ _ _ _ c.requires.none,
       );
     }
 
-pub add-requires : goal.add-requires
-add-requires g c =
+pub add-requires-clause-ready : goal.add-requires-clause-ready
+add-requires-clause-ready g c =
+    All-first (λ home. g.Q.Queue.is_ready c.args.queue.now home.state.seat) _ _ _
+    c.in-Some.ensures.steps.0 c.loop-home.invariant.ready
+
+pub add-requires-clause-room : goal.add-requires-clause-room
+add-requires-clause-room g c =
     let room = c.loop-home.invariant.room in
     let rows = room.for_rows in
     let wakers = room.for_wakers in
     let lists = room.for_lists in
     record {
-      room = record {
-        for_rows = omega arith;
-        for_wakers = omega arith;
-        for_lists = omega arith;
-      };
+      for_rows = omega arith;
+      for_wakers = omega arith;
+      for_lists = omega arith;
     }
 
 pub loop-home-preserved : goal.loop-home-preserved
@@ -51,15 +56,17 @@ loop-home-preserved g c =
     record {
       can = tt;
       finite = tt;
+      ready = All-rest (λ home. g.Q.Queue.is_ready c.args.queue.now home.state.seat) _ _ _ split
+          before.ready;
       many = omega arith;
       room = c.add.ensures.room (length rest + 1)
           (subst (λ more. HasRoom more c.loop-home.gathered) one_less before.room);
       home = λ pool ctx start.
-          let home = before.home pool ctx start in (
-            All-rest (λ at. IsAtWork g.R.Rows g.W.WaitPoint g.J.Job pool ctx at.state) _ _ _ split home.0,
-            gathers-more _ _ _ pool ctx _ _ _
-                (All-first (λ at. IsAtWork g.R.Rows g.W.WaitPoint g.J.Job pool ctx at.state) _ _ _ split home.0) adds
-                home.1,
+          let home = before.home pool ctx start in
+          let one = All-first (λ home. IsAtWork g.Q.Queue g.J.Job pool ctx home.state) _ _ _ split
+          home.0 in (
+            All-rest (λ home. IsAtWork g.Q.Queue g.J.Job pool ctx home.state) _ _ _ split home.0,
+            gathers-more _ _ pool _ ctx _ _ _ one adds home.1,
           );
     }
 

@@ -9,11 +9,13 @@ abbrev pub invariant-loop-home : goal.invariant-loop-home
 invariant-loop-home g l = record {
   can : (goal.iterator-loop-home g).can_next l.home-iterator;
   finite : (goal.iterator-loop-home g).is_finite l.home-iterator;
+  ready : All (λ home. g.Q.Queue.is_ready l.queue home.state.seat)
+      (into_iter_items l.home-iterator);
   many : count_of l.gathered + length (into_iter_items l.home-iterator) ≡ length l.fn.homes.items;
   room : HasRoom (length (into_iter_items l.home-iterator) + 1) l.gathered;
   home : (pool : _) → (ctx : _)
-      → All (λ at. IsAtWork g.R.Rows g.W.WaitPoint g.J.Job pool ctx at.state) l.fn.homes.items
-      → All (λ at. IsAtWork g.R.Rows g.W.WaitPoint g.J.Job pool ctx at.state)
+      → All (λ home. IsAtWork g.Q.Queue g.J.Job pool ctx home.state) l.fn.homes.items
+      → All (λ home. IsAtWork g.Q.Queue g.J.Job pool ctx home.state)
       (into_iter_items l.home-iterator)
-      × HasGathered g.R.Rows g.W.WaitPoint g.J.Job pool.queue ctx l.gathered;
+      × HasGathered g.Q.Queue l.queue g.J.Job ctx l.gathered;
 }

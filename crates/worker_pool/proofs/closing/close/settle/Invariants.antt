@@ -7,9 +7,9 @@ use Rattle.worker_pool.proofs.closing.close.settle.Given as goal
 abbrev pub invariant-loop-job : goal.invariant-loop-job
 invariant-loop-job g l = record {
   so_far : (outs : List _) (refused : ℕ)
-      → RanToo g.R.Rows.keeps_accounts (law_of g.J.Job l.ctx) l.left.items
+      → RanToo g.Q.Queue.keeps_accounts (law_of g.J.Job l.ctx) l.left.items
       (g.L.Lists.items_of l.outs) outs l.refused refused
-      → RanToo g.R.Rows.keeps_accounts (law_of g.J.Job l.ctx) l.initial.left.items
+      → RanToo g.Q.Queue.keeps_accounts (law_of g.J.Job l.ctx) l.initial.left.items
       (g.L.Lists.items_of l.initial.outs) outs l.before refused;
 }
 

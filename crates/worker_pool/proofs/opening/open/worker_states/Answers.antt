@@ -1,57 +1,46 @@
-use Rattle.std.proofs.Common.{rules, refl, ◌≡◌, ◌∙◌, [], ap, arith, length, subst, sym, ⊎_elim}
+use Rattle.std.proofs.Common.{rules, ◌≡◌, ◌∙◌, [], ap, arith, length, subst, sym, ⊎_elim}
 use Rattle.std.specs.Iterator.Adapters.{zip_first, zip_second}
 use Rattle.std.specs.List.{range_with_len}
 use Rattle.std.specs.Vec.Iter.{into_iter_items}
-use Rattle.worker_pool.specs.Openings.{AreRowSeats, AreWakers, IsByNumber}
-use Rattle.worker_pool.specs.Seats.{IsIdle}
+use Rattle.worker_pool.specs.Openings.{AreRows, AreWakers, IsByNumber}
 use Rattle.worker_pool.specs.Works.{IsAtWork}
 use Rattle.std.proofs.lemmas.List.Elements.{All-nil, All-same}
-use Rattle.worker_pool.proofs.Dealings.{AreRowSeats-rest, AreWakers-rest}
+use Rattle.worker_pool.proofs.Dealings.{AreRows-rest, AreWakers-rest}
 use Rattle.worker_pool.proofs.Dealings.{numbers-first, numbers-snoc}
 use Rattle.worker_pool.proofs.Growing.{All-first, All-snoc, length-snoc}
 use Rattle.worker_pool.proofs.opening.open.worker_states.Goals as goal
 
 pub state_of-requires-clause-row_number : goal.state_of-requires-clause-row_number
 state_of-requires-clause-row_number g c =
-    numbers-first g.R.Rows.number_of _ _ _ _ c.in-Some.ensures.steps.0.0
+    numbers-first g.Q.Queue.row_number _ _ _ _ c.in-Some.ensures.steps.0.0
     c.loop-row.invariant.rows.numbers ∙ sym (c.len-number.ensures ∙ c.loop-row.states.ok.0)
 
 pub state_of-requires-clause-waker_number : goal.state_of-requires-clause-waker_number
 state_of-requires-clause-waker_number g c =
-    numbers-first g.W.WaitPoint.number_of _ _ _ _ c.in-Some.ensures.steps.1.0
+    numbers-first g.Q.Queue.waker_number _ _ _ _ c.in-Some.ensures.steps.1.0
     c.loop-row.invariant.wakers.numbers ∙ sym (c.len-number.ensures ∙ c.loop-row.states.ok.0)
 
 pub state_of-requires-clause-untouched : goal.state_of-requires-clause-untouched
 state_of-requires-clause-untouched g c = λ on.
-    All-first (λ seat. (g.R.Rows.puts_of seat ≡ []) × (g.R.Rows.takes_of seat ≡ [])) _ _ _
+    All-first (λ row. (g.Q.Queue.puts_of row ≡ []) × (g.Q.Queue.takes_of row ≡ [])) _ _ _
     c.in-Some.ensures.steps.0.0 (c.loop-row.invariant.rows.untouched on)
 
-pub state_of-requires-clause-seats : goal.state_of-requires-clause-seats
-state_of-requires-clause-seats g c =
-    let queue = c.args.pool.now.queue in
-    let before = c.loop-row.invariant in
-    let row_split = c.in-Some.ensures.steps.0.0 in
-    let waker_split = c.in-Some.ensures.steps.1.0 in
-    let sized = c.requires.sized in
-    let row_number = numbers-first g.R.Rows.number_of _ _ _ _ row_split before.rows.numbers in
-    let waker_number =
-    numbers-first g.W.WaitPoint.number_of _ _ _ _ waker_split before.wakers.numbers in
-    let rows_many = before.rows_many in
-    let wakers_many = before.wakers_many in
-    let rows_less = ap length row_split in
-    let wakers_less = ap length waker_split in
-    record {
-      sized = sized;
-      owns = record {
-        ours = All-first (λ seat. g.R.Rows.rows_of seat ≡ g.R.Rows.identity_of queue.rows) _ _ _
-            row_split before.rows.ours;
-        owner = omega (arith, row_number, sized.rows, rows_many, rows_less);
-      };
-      waits = record {
-        idle = All-first (IsIdle g.W.WaitPoint queue.point) _ _ _ waker_split before.wakers.idle;
-        waiter = omega (arith, waker_number, sized.waiters, wakers_many, wakers_less);
-      };
-    }
+pub state_of-requires-clause-row : goal.state_of-requires-clause-row
+state_of-requires-clause-row g c =
+    All-first (g.Q.Queue.is_row c.args.pool.now.queue) _ _ _ c.in-Some.ensures.steps.0.0
+    c.loop-row.invariant.rows.ours
+
+pub state_of-requires-clause-waker : goal.state_of-requires-clause-waker
+state_of-requires-clause-waker g c =
+    All-first (g.Q.Queue.is_waker c.args.pool.now.queue) _ _ _ c.in-Some.ensures.steps.1.0
+    c.loop-row.invariant.wakers.ours
+
+pub state_of-requires-clause-number : goal.state_of-requires-clause-number
+state_of-requires-clause-number g c =
+    let less = ap length c.in-Some.ensures.steps.0.0 in
+    let many = c.loop-row.invariant.rows_many in
+    let number = c.len-number.ensures ∙ c.loop-row.states.ok.0 in
+    omega (arith, less, many, number, c.requires.same_size)
 
 pub loop-row-preserved : goal.loop-row-preserved
 loop-row-preserved g c =
@@ -69,24 +58,20 @@ loop-row-preserved g c =
     record {
       can = (tt, tt);
       finite = tt;
-      stop = c.new_seat-stop.ensures.of.0;
-      same = c.new_seat-stop.ensures.same ∙ before.same;
-      stored = c.new_seat-stop.ensures.stored ∙ before.stored;
-      rows = subst (λ n. AreRowSeats g.R.Rows queue.rows n
-          (into_iter_items (zip_first c.next.new.self)))
-          (sym longer) (AreRowSeats-rest g.R.Rows _ _ _ _ _ row_split before.rows);
-      wakers = subst (λ n. AreWakers g.W.WaitPoint queue.point n
+      rows = subst (λ n. AreRows g.Q.Queue queue n (into_iter_items (zip_first c.next.new.self)))
+          (sym longer) (AreRows-rest g.Q.Queue _ _ _ _ _ row_split before.rows);
+      wakers = subst (λ n. AreWakers g.Q.Queue queue n
           (into_iter_items (zip_second c.next.new.self)))
-          (sym longer) (AreWakers-rest g.W.WaitPoint _ _ _ _ _ waker_split before.wakers);
+          (sym longer) (AreWakers-rest g.Q.Queue _ _ _ _ _ waker_split before.wakers);
       rows_many = omega (arith, longer, rows_less, rows_many);
       wakers_many = omega (arith, longer, wakers_less, wakers_many);
       room = c.push_reserved.ensures.capacity ∙ before.room;
       at_work = λ ctx.
-          All-snoc (IsAtWork g.R.Rows g.W.WaitPoint g.J.Job c.args.pool.now ctx) _ _ _ added
+          All-snoc (IsAtWork g.Q.Queue g.J.Job c.args.pool.now ctx) _ _ _ added
           (before.at_work ctx) (state.at_work ctx);
       numbers = numbers-snoc (λ state. state.number) _ _ _ added before.numbers
           (state.number ∙ (c.len-number.ensures ∙ c.loop-row.states.ok.0));
-      by_number = All-snoc (IsByNumber g.R.Rows g.W.WaitPoint c.args.setup.now.partitions.items
+      by_number = All-snoc (IsByNumber g.Q.Queue c.args.setup.now.partitions.items
           c.args.setup.now.workers) _ _ _ added before.by_number state.by_number;
     }
 
@@ -97,7 +82,7 @@ returns-clause-numbers g c =
     let wakers_many = end.wakers_many in
     let rows_len = c.loop-row.row-iterator.a.rest.ok.0 in
     let wakers_len = c.loop-row.row-iterator.b.rest.ok.0 in
-    let all : length c.loop-row.states.items ≡ c.args.pool.now.queue.workers =
+    let all : length c.loop-row.states.items ≡ g.Q.Queue.worker_count c.args.pool.now.queue =
     ⊎_elim (λ none. let left = none.1.0 in omega arith) (λ none. let left = none.1.0 in omega arith)
     c.in-None.ensures.steps in
     end.numbers ∙ ap (range_with_len 0) all
@@ -108,25 +93,21 @@ loop-row-init g c =
     record {
       can = (tt, tt);
       finite = tt;
-      stop = c.requires.stop;
-      same = refl;
-      stored = refl;
       rows = search rules;
       wakers = search rules;
       rows_many = search rules;
       wakers_many = search rules;
       room = search rules;
       at_work = λ ctx.
-          All-same (IsAtWork g.R.Rows g.W.WaitPoint g.J.Job c.args.pool.now ctx) _ _ none
-          (All-nil _);
+          All-same (IsAtWork g.Q.Queue g.J.Job c.args.pool.now ctx) _ _ none (All-nil _);
       numbers = search rules;
-      by_number = All-same (IsByNumber g.R.Rows g.W.WaitPoint c.args.setup.now.partitions.items
+      by_number = All-same (IsByNumber g.Q.Queue c.args.setup.now.partitions.items
           c.args.setup.now.workers) _ _ none (All-nil _);
     }
 
 pub overflow_cast-number : goal.overflow_cast-number
 overflow_cast-number g c =
-    let few = c.requires.sized.few in
+    let few = c.requires.pool.size.1 in
     let many = c.loop-row.invariant.rows_many in
     omega (arith, few, many, c.len-number.ensures, c.loop-row.states.ok.0)
 

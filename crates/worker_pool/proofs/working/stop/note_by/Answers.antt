@@ -1,7 +1,0 @@
-use Rattle.std.proofs.Common.{rules, refl}
-use Rattle.atomic_table.specs.Table.{keeps}
-use Rattle.worker_pool.proofs.working.stop.note_by.Goals as goal
-
-pub load-requires : goal.load-requires
-load-requires g c =
-    (search rules, search rules, λ s rule homes at small. (_, keeps, tt, tt, (refl, refl)))
