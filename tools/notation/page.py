@@ -17,7 +17,7 @@ from .resting import Closure, heads_of, lines_of
 
 WORDS = os.path.join(os.path.dirname(os.path.abspath(__file__)), "headline.md")
 DIRECTIVE = re.compile(r"\{(\w+) ?([^}]*)\}$")
-OPENED = re.compile(r"(?:pub )?(enum|struct|trait) (\w+)")
+OPENED = re.compile(r"(?:pub(?:\(\w+\))? )?(enum|struct|trait) (\w+)")
 GHOST = re.compile(r" +(?:// |ghost (?!use))")
 
 
